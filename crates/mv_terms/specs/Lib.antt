@@ -1,0 +1,4 @@
+pub mod Ranges
+pub mod Rates
+pub mod Order
+pub mod Texts
