@@ -1,0 +1,4 @@
+pub mod Known
+pub mod PlaceLemmas
+pub mod Pieces
+pub mod Parts

@@ -1,0 +1,113 @@
+//! Endpoints in memory that don't fail, as long as there is room.
+ghost use Rattle.std.specs.Prelude.{◌≡◌, ◌≤◌, [], Some, IfOk, false, List, ℕ, vec_len, vec_capacity};
+ghost use Rattle.std.specs.Option.{ForSome};
+ghost use Rattle.mv_ends.specs.Places.{inputs_of, place_of, left_of, is_place, IsFirst};
+
+use crate::inputs::{input_at, moved, place};
+use crate::{Failed, Shelf, Sink};
+use std::alloc::{AllocError, Global};
+
+/// Inputs by name, all told. No call fails: a name that isn't there has an empty input.
+#[derive(Drop)]
+pub struct CleanShelf {
+    inputs: Vec<(String, Vec<u8>)>,
+    selected: Option<usize>,
+    at: usize,
+    ghost first: { ForSome selected (λ place. IsFirst inputs.items place) },
+}
+
+impl CleanShelf {
+    ghost use Rattle.mv_ends.specs.Clean.{inputs_in, selected_in};
+
+    /// A shelf of these inputs. Of two of one name the first counts.
+    pub fn new(inputs: Vec<(String, Vec<u8>)>) -> Self
+        ensures inputs { inputs_in result ≡ inputs_of inputs.items }
+        ensures selected { (name : List ℕ) → selected_in result name ≡ false }
+    {
+        CleanShelf {
+            inputs,
+            selected: None,
+            at: 0,
+        }
+    }
+}
+
+impl Shelf for CleanShelf {
+    ghost named = { λ s. Some (inputs_of s.inputs.items) };
+
+    ghost rest = { λ s. Some (left_of s.inputs.items s.selected s.at) };
+
+    ghost selected = { λ s name. is_place s.selected (place_of s.inputs.items name) };
+
+    ghost open_faults = { λ _ _. 0 };
+
+    ghost read_faults = { λ _ _. 0 };
+
+    fn select(&mut self, name: &str) -> Result<(), Failed> {
+        self.selected = Some(place(&self.inputs, name));
+        self.at = 0;
+        Ok(())
+    }
+
+    fn read(&mut self, buf: &mut [u8]) -> Result<usize, Failed> {
+        let Some(place) = self.selected else {
+            return Ok(0);
+        };
+        let count = moved(input_at(&self.inputs, place), self.at, usize::MAX, buf);
+        self.at += count;
+        Ok(count)
+    }
+}
+
+/// A sink that keeps what it takes, and tells it. Only a write that comes when it is full fails.
+#[derive(Drop)]
+pub struct CleanSink {
+    taken: Vec<u8>,
+    room: usize,
+    faults: u64,
+    ghost has_room: { room ≤ vec_capacity taken },
+    ghost within: { vec_len taken ≤ room },
+}
+
+impl CleanSink {
+    ghost use Rattle.mv_ends.specs.Clean.{taken_by, room_of, faults_of};
+
+    /// A sink with room for n bytes.
+    pub fn with_room(alloc: Global, n: usize) -> Result<Self, AllocError>
+        ensures room { IfOk result (λ sink. room_of sink ≡ n) }
+        ensures taken { IfOk result (λ sink. taken_by sink ≡ []) }
+        ensures faults { IfOk result (λ sink. faults_of sink ≡ 0) }
+    {
+        Ok(CleanSink {
+            taken: Vec::with_capacity(alloc, n)?,
+            room: n,
+            faults: 0,
+        })
+    }
+
+    /// The bytes that it took.
+    pub fn bytes(&self) -> &[u8]
+        ensures { result.now ≡ taken_by self.now }
+    {
+        &self.taken
+    }
+}
+
+impl Sink for CleanSink {
+    ghost written = { λ s. Some s.taken.items };
+
+    ghost faults = { λ s. s.faults };
+
+    ghost room = { λ s. s.room };
+
+    fn write(&mut self, buf: &[u8]) -> Result<usize, Failed> {
+        let free = self.room - self.taken.len();
+        if free == 0 {
+            self.faults = self.faults.saturating_add(1);
+            return Err(Failed);
+        }
+        let count = buf.len().min(free);
+        self.taken.extend_from_slice(&buf[..count]).unwrap();
+        Ok(count)
+    }
+}
