@@ -1,0 +1,7 @@
+pub mod BitLaws
+pub mod TrimLaws
+pub mod StartLaws
+pub mod CutLaws
+pub mod RunLaws
+pub mod ReadingLaws
+mod WindowLemmas
