@@ -1,0 +1,6 @@
+pub mod Sums
+pub mod Block
+pub mod Basis
+pub mod Transform
+pub mod WeightedSum
+pub mod Lines
