@@ -1,0 +1,71 @@
+//! The inverse quantiser (H.262, 7.4): what the levels of a block stand for.
+//! Its promise: `dequantise` gives the coefficients of a block as the standard defines them, one at a time, with
+//! saturation and mismatch control, and `scale_value` the scale of a code.
+//! The definitions stand in `specs/Scale.antt` and in `specs/Dequantised.antt`, where the value of one level
+//! stands alone.
+#![tactic(auto)]
+
+ghost use Rattle.std.specs.Prelude.{◌≡◌, ◌<◌, ◌≤◌, true};
+ghost use Rattle.mv_terms.specs.Ranges.{IsScaleCode};
+ghost use Rattle.mv_quant.specs.Dequantised.{ValueIsSaturated, DequantisedIsSaturated, DequantisedOfSame};
+ghost use Rattle.mv_quant.specs.Scale.{scale_of};
+
+mod block;
+
+pub use block::dequantise;
+
+/// How the levels of a block were quantised.
+#[derive(Clone, Copy, Debug, PartialEq, Eq)]
+pub struct Kind {
+    /// The block is of an intra macroblock.
+    pub intra: bool,
+    /// `quantiser_scale`, 1 to 112.
+    pub scale: u8,
+    /// `intra_dc_precision`, 0 to 3.
+    pub dc_precision: u8,
+    /// The quantiser matrix `W[v][u]` in raster order.
+    pub matrix: [u8; 64],
+}
+
+/// The quantiser scale of a `quantiser_scale_code` from 1 to 31 (H.262, 7.4.2.2); `non_linear` is `q_scale_type`.
+#[tactic(auto, using(crate::proofs::ScaleLemmas::scales))]
+pub fn scale_value(code: u8, non_linear: bool) -> u8
+    requires { IsScaleCode code }
+    ensures value { result ≡ scale_of non_linear code }
+    ensures range { (0 < result) × (result ≤ 112) }
+{
+    if non_linear {
+        non_linear_scale(code)
+    } else {
+        2 * code
+    }
+}
+
+// Steps of 1, 2, 4 and 8, each for eight codes.
+#[tactic(auto, using(crate::proofs::ScaleLemmas::scales))]
+fn non_linear_scale(code: u8) -> u8
+    requires { IsScaleCode code }
+    ensures value { result ≡ scale_of true code }
+    ensures range { (0 < result) × (result ≤ 112) }
+{
+    match code {
+        0..=8 => code,
+        9..=16 => 2 * (code - 4),
+        17..=24 => 4 * (code - 10),
+        _ => 8 * (code - 17),
+    }
+}
+
+/// The value of each level and each coefficient lies in −2048 to 2047.
+pub fn saturated_law()
+    ensures value { ValueIsSaturated }
+    ensures coefficient { DequantisedIsSaturated }
+{}
+
+/// The coefficients of a block depend on its 64 levels alone, however they are given.
+pub fn same_levels_law()
+    ensures { DequantisedOfSame }
+{}
+
+#[cfg(test)]
+mod tests;
