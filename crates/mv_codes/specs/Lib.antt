@@ -1,0 +1,7 @@
+pub mod Tables
+pub mod Increments
+pub mod Types
+pub mod Patterns
+pub mod Motions
+pub mod Sizes
+pub mod Coefficients
