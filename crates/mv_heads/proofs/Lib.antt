@@ -1,0 +1,5 @@
+mod FieldLemmas
+mod ElementLemmas
+mod PartLemmas
+mod SequenceLemmas
+mod StateLemmas

@@ -1,0 +1,6 @@
+pub mod Matrices
+pub mod Headers
+pub mod Parts
+pub mod Units
+pub mod Legal
+pub mod Marks

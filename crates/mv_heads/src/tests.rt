@@ -1,0 +1,523 @@
+//! Headers that encoders wrote, and refusals.
+
+use super::*;
+use mv_terms::{Context, Head, Matrices, PicType, UnitParts, Why};
+use std::alloc::{AllocError, Global};
+use std::test::Fail;
+
+// The sequence part and the head of the example: 96x64 luma samples, progressive, 25 frames a second, an I picture.
+const PART: &[u8] =
+    b"\x00\x00\x01\xB3\x06\x00\x40\x13\xFF\xFF\xE3\x80\x00\x00\x01\xB5\x14\x8A\x00\x01\x00\x00";
+
+const HEAD: &[u8] = b"\x00\x00\x01\x00\x00\x0F\xFF\xF8\x00\x00\x01\xB5\x8F\xFF\xF3\x41\x80";
+
+// Heads of a P picture, which FFmpeg wrote, and of a B picture in the same form.
+const P_HEAD: &[u8] = b"\x00\x00\x01\x00\x00\x57\xFF\xFB\x80\x00\x00\x01\xB5\x81\x1F\xF3\x41\x80";
+
+const B_HEAD: &[u8] = b"\x00\x00\x01\x00\x00\x9F\xFF\xFB\xB8\x00\x00\x01\xB5\x81\x11\x13\x41\x80";
+
+// No prefix, a group of pictures header, and user data.
+const NONE: &[u8] = b"";
+
+const GROUP: &[u8] = b"\x00\x00\x01\xB8\x00\x08\x00\x40";
+
+const USER_DATA: &[u8] = b"\x00\x00\x01\xB2\xFF\x61\x6E\x79";
+
+/// The bytes with one of them changed.
+fn changed(alloc: Global, bytes: &[u8], place: usize, value: u8) -> Result<Vec<u8>, AllocError> {
+    let mut bytes = bytes.to_vec(alloc)?;
+    if let Some(byte) = bytes.get_mut(place) {
+        *byte = value;
+    }
+    Ok(bytes)
+}
+
+fn join(alloc: Global, first: &[u8], second: &[u8]) -> Result<Vec<u8>, AllocError> {
+    let mut bytes = first.to_vec(alloc)?;
+    bytes.extend_from_slice(second)?;
+    Ok(bytes)
+}
+
+fn head_behind(part: &[u8], head: &[u8]) -> Result<Head, Why> {
+    let context = read_context(part)?;
+    read_head(head, &context)
+}
+
+/// The first of these sequence parts that isn't refused so.
+fn wrong_part(parts: &[(&[u8], Why)]) -> Option<usize> {
+    for (i, (part, why)) in parts.iter().enumerate() {
+        if read_context(part) != Err(*why) {
+            return Some(i);
+        }
+    }
+    None
+}
+
+/// The first of these heads behind the example's sequence part that isn't refused so.
+fn wrong_head(heads: &[(&[u8], Why)]) -> Option<usize> {
+    for (i, (head, why)) in heads.iter().enumerate() {
+        if head_behind(PART, head) != Err(*why) {
+            return Some(i);
+        }
+    }
+    None
+}
+
+/// The first of these bytes whose change in the sequence part isn't refused so.
+fn wrong_part_byte(
+    alloc: Global,
+    changes: &[(usize, u8, Why)],
+) -> Result<Option<usize>, AllocError> {
+    for (i, (place, value, why)) in changes.iter().enumerate() {
+        if read_context(&changed(alloc, PART, *place, *value)?) != Err(*why) {
+            return Ok(Some(i));
+        }
+    }
+    Ok(None)
+}
+
+/// The first of these bytes whose change in the head isn't refused so.
+fn wrong_head_byte(
+    alloc: Global,
+    changes: &[(usize, u8, Why)],
+) -> Result<Option<usize>, AllocError> {
+    for (i, (place, value, why)) in changes.iter().enumerate() {
+        if head_behind(PART, &changed(alloc, HEAD, *place, *value)?) != Err(*why) {
+            return Ok(Some(i));
+        }
+    }
+    Ok(None)
+}
+
+/// The first of these units, a prefix and a head, that isn't refused so, or isn't accepted.
+fn wrong_unit(state: &mut HeadState, units: &[(&[u8], &[u8], Option<Why>)]) -> Option<usize> {
+    for (i, (prefix, head, why)) in units.iter().enumerate() {
+        let parts = UnitParts {
+            prefix,
+            head,
+            slices: &[],
+            zeros: 0,
+            end: None,
+        };
+        if state.unit(&parts).err() != *why {
+            return Some(i);
+        }
+    }
+    None
+}
+
+#[test]
+fn reads_the_sequence_part_of_the_example(rt: HostRuntime) {
+    let context = Context {
+        width: 96,
+        height: 64,
+        mb_wide: 6,
+        mb_high: 4,
+        progressive: true,
+        low_delay: false,
+        rate_code: 3,
+        rate_n: 0,
+        rate_d: 0,
+        matrices: Matrices {
+            intra: DEFAULT_INTRA,
+            non_intra: [16; 64],
+        },
+    };
+    assert_eq!(rt; read_context(PART), Ok(context));
+}
+
+/// The type, the temporal reference and the f_codes of a head behind the example's sequence part.
+fn kind(head: &[u8]) -> Option<(PicType, u16, [[u8; 2]; 2])> {
+    let head = head_behind(PART, head).ok()?;
+    let f_code = head.f_code;
+    Some((head.pic, head.temporal, f_code))
+}
+
+#[test]
+fn reads_heads_of_each_type(rt: HostRuntime) {
+    assert_eq!(rt; kind(HEAD), Some((PicType::I, 0, [[15, 15], [15, 15]])));
+    assert_eq!(rt; kind(P_HEAD), Some((PicType::P, 1, [[1, 1], [15, 15]])));
+    assert_eq!(rt; kind(B_HEAD), Some((PicType::B, 2, [[1, 1], [1, 1]])));
+}
+
+/// What the flags of a head behind the example's sequence part say: frames alone, concealment, the non-linear scale,
+/// table B.15 and the alternate scan.
+fn flags(head: &[u8]) -> Option<[bool; 5]> {
+    let head = head_behind(PART, head).ok()?;
+    Some([
+        head.frame_only,
+        head.concealment,
+        head.non_linear,
+        head.table_15,
+        head.alternate,
+    ])
+}
+
+#[test]
+fn each_flag_of_a_coding_extension_is_read_from_its_own_bit(rt: HostRuntime) {
+    // As FFmpeg wrote them, the last one with concealment and f_codes of 1 besides.
+    let non_linear = flags(b"\x00\x00\x01\x00\x00\x0F\xFF\xF8\x00\x00\x01\xB5\x8F\xFF\xF3\x51\x80");
+    assert_eq!(rt; non_linear, Some([true, false, true, false, false]));
+    let table_15 = flags(b"\x00\x00\x01\x00\x00\x0F\xFF\xF8\x00\x00\x01\xB5\x8F\xFF\xF3\x49\x80");
+    assert_eq!(rt; table_15, Some([true, false, false, true, false]));
+    let alternate = flags(b"\x00\x00\x01\x00\x00\x0F\xFF\xF8\x00\x00\x01\xB5\x8F\xFF\xF3\x04\x00");
+    assert_eq!(rt; alternate, Some([false, false, false, false, true]));
+    let concealment = flags(
+        b"\x00\x00\x01\x00\x00\x0F\xFF\xF8\x00\x00\x01\xB5\x81\x1F\xF3\x61\x80",
+    );
+    assert_eq!(rt; concealment, Some([true, true, false, false, false]));
+}
+
+/// The size of a sequence part in samples and in macroblocks.
+fn size(part: &[u8]) -> Option<[u16; 4]> {
+    let context = read_context(part).ok()?;
+    Some([
+        context.width,
+        context.height,
+        context.mb_wide,
+        context.mb_high,
+    ])
+}
+
+#[test]
+fn sizes_are_rounded_up_to_macroblocks(rt: HostRuntime) {
+    // 356x244 progressive, as FFmpeg wrote it, and 356x260 interlaced.
+    let progressive = size(
+        b"\x00\x00\x01\xB3\x16\x40\xF4\x13\xFF\xFF\xE0\x18\x00\x00\x01\xB5\x14\x8A\x00\x01\x00\x00",
+    );
+    assert_eq!(rt; progressive, Some([356, 244, 23, 16]));
+    let interlaced = size(
+        b"\x00\x00\x01\xB3\x16\x41\x04\x13\xFF\xFF\xE0\x18\x00\x00\x01\xB5\x14\x82\x00\x01\x00\x00",
+    );
+    assert_eq!(rt; interlaced, Some([356, 260, 23, 18]));
+}
+
+// FFmpeg was given the matrix 8, 9, 10 .. by rows.
+const OWN_MATRIX: &[u8] = b"\x00\x00\x01\xB3\x16\x01\x20\x13\xFF\xFF\xE0\x1A\
+    \x10\x12\x20\x30\x22\x14\x16\x24\x32\x40\x50\x42\x34\x26\x18\x1A\
+    \x28\x36\x44\x52\x60\x70\x62\x54\x46\x38\x2A\x1C\x1E\x2C\x3A\x48\
+    \x56\x64\x72\x80\x82\x74\x66\x58\x4A\x3C\x2E\x3E\x4C\x5A\x68\x76\
+    \x84\x86\x78\x6A\x5C\x4E\x5E\x6C\x7A\x88\x8A\x7C\x6E\x7E\x8C\x8E\
+    \x00\x00\x01\xB5\x14\x8A\x00\x01\x00\x00";
+
+fn is_counted_from_8(matrix: &[u8; 64]) -> bool {
+    matrix.iter().enumerate().all(|(place, entry)| (*entry as usize).wrapping_sub(8) == place)
+}
+
+#[test]
+fn a_sent_matrix_stands_in_raster_order(rt: HostRuntime) -> Result<(), Fail> {
+    let context = read_context(OWN_MATRIX).ok().ok_or("refused")?;
+    assert!(rt; is_counted_from_8(&context.matrices.intra));
+    assert_eq!(rt; context.matrices.non_intra, [16; 64]);
+    assert!(rt; loads_matrix(OWN_MATRIX));
+    assert!(rt; !loads_matrix(PART));
+    let with_zero = changed(rt.alloc(), OWN_MATRIX, 75, 1)?;
+    assert_eq!(rt; read_context(&with_zero).err(), Some(Why::BadHead));
+    Ok(())
+}
+
+#[test]
+fn other_extensions_and_user_data_are_carried(rt: HostRuntime) -> Result<(), Fail> {
+    let alloc = rt.alloc();
+    // A sequence display extension, and a picture display extension.
+    let part = join(
+        alloc,
+        &join(alloc, PART, USER_DATA)?,
+        b"\x00\x00\x01\xB5\x23\x01\x02\x03\xFF",
+    )?;
+    assert_eq!(rt; read_context(&part), read_context(PART));
+    let head = join(
+        alloc,
+        &join(alloc, HEAD, b"\x00\x00\x01\xB5\x7F\xFF")?,
+        USER_DATA,
+    )?;
+    assert_eq!(rt; head_behind(PART, &head), head_behind(PART, HEAD));
+    // Extra information behind the vbv delay.
+    let extra = b"\x00\x00\x01\x00\x00\x0F\xFF\xFC\xAB\x40\x00\x00\x01\xB5\x8F\xFF\xF3\x41\x80";
+    assert_eq!(rt; head_behind(PART, extra), head_behind(PART, HEAD));
+    assert!(rt; has_extra_information(extra));
+    assert!(rt; !has_extra_information(P_HEAD));
+    Ok(())
+}
+
+#[test]
+fn a_sequence_part_is_refused_at_its_first_offence(rt: HostRuntime) -> Result<(), Fail> {
+    // Rate codes 0 and 9, the marker, and a bit behind the header; user data as second element; 4:2:2, a width above
+    // 1920, and the marker of the extension.
+    let bytes = wrong_part_byte(
+        rt.alloc(),
+        &[
+            (7, 0x10, Why::BadHead),
+            (7, 0x19, Why::BadHead),
+            (10, 0xC3, Why::BadHead),
+            (15, 0xB2, Why::BadHead),
+            (17, 0x8C, Why::Unsupported(1)),
+            (18, 0x80, Why::Unsupported(3)),
+            (19, 0x00, Why::BadHead),
+        ],
+    )?;
+    assert_eq!(rt; bytes, None);
+    let parts = wrong_part(&[
+        // Nothing, a zero in front, a group behind a refused header; a header alone, bits behind each of the two; no
+        // width; a second sequence extension, and a scalable one.
+        (b"", Why::BadOrder),
+        (
+            b"\x00\x00\x00\x01\xB3\x06\x00\x40\x13\xFF\xFF\xE3\x80\x00\x00\x01\xB5\x14\x8A\x00\x01\x00\x00",
+            Why::BadOrder,
+        ),
+        (
+            b"\x00\x00\x01\xB3\x06\x00\x40\x10\xFF\xFF\xE3\x80\x00\x00\x01\xB8\x00\x08\x00\x40",
+            Why::BadOrder,
+        ),
+        (
+            b"\x00\x00\x01\xB3\x06\x00\x40\x13\xFF\xFF\xE3\x80",
+            Why::BadHead,
+        ),
+        (
+            b"\x00\x00\x01\xB3\x06\x00\x40\x13\xFF\xFF\xE3\x80\x01\x00\x00\x01\xB5\x14\x8A\x00\x01\x00\x00",
+            Why::BadHead,
+        ),
+        (
+            b"\x00\x00\x01\xB3\x06\x00\x40\x13\xFF\xFF\xE3\x80\x00\x00\x01\xB5\x14\x8A\x00\x01\x00\x00\x02",
+            Why::BadHead,
+        ),
+        (
+            b"\x00\x00\x01\xB3\x00\x00\x40\x13\xFF\xFF\xE3\x80\x00\x00\x01\xB5\x14\x8A\x00\x01\x00\x00",
+            Why::BadHead,
+        ),
+        (
+            b"\x00\x00\x01\xB3\x06\x00\x40\x13\xFF\xFF\xE3\x80\x00\x00\x01\xB5\x14\x8A\x00\x01\x00\x00\x00\x00\x01\xB5\x14\x8A\x00\x01\x00\x00",
+            Why::BadHead,
+        ),
+        (
+            b"\x00\x00\x01\xB3\x06\x00\x40\x13\xFF\xFF\xE3\x80\x00\x00\x01\xB5\x14\x8A\x00\x01\x00\x00\x00\x00\x01\xB5\x50",
+            Why::Unsupported(2),
+        ),
+        // A bit behind before 4:2:2, 4:2:2 before a width above 1920, no height before such a width.
+        (
+            b"\x00\x00\x01\xB3\x06\x00\x40\x13\xFF\xFF\xE3\x80\x00\x00\x01\xB5\x14\x8C\x00\x01\x00\x00\x02",
+            Why::BadHead,
+        ),
+        (
+            b"\x00\x00\x01\xB3\x06\x00\x40\x13\xFF\xFF\xE3\x80\x00\x00\x01\xB5\x14\x8C\x80\x01\x00\x00",
+            Why::Unsupported(1),
+        ),
+        (
+            b"\x00\x00\x01\xB3\x06\x00\x00\x13\xFF\xFF\xE3\x80\x00\x00\x01\xB5\x14\x8A\x80\x01\x00\x00",
+            Why::BadHead,
+        ),
+    ]);
+    assert_eq!(rt; parts, None);
+    Ok(())
+}
+
+#[test]
+fn a_head_is_refused_at_its_first_offence(rt: HostRuntime) -> Result<(), Fail> {
+    // Types 0, 4, 5, 6 and 7, and a bit behind the header; user data or another extension as second element;
+    // structures 0, 1 and 2; concealment with an f_code of 15; a bit behind the extension.
+    let bytes = wrong_head_byte(
+        rt.alloc(),
+        &[
+            (5, 0x07, Why::BadHead),
+            (5, 0x27, Why::Unsupported(6)),
+            (5, 0x2F, Why::BadHead),
+            (5, 0x37, Why::BadHead),
+            (5, 0x3F, Why::BadHead),
+            (7, 0xF9, Why::BadHead),
+            (11, 0xB2, Why::BadHead),
+            (12, 0x7F, Why::BadHead),
+            (14, 0xF0, Why::BadHead),
+            (14, 0xF1, Why::Unsupported(4)),
+            (14, 0xF2, Why::Unsupported(4)),
+            (15, 0x61, Why::BadHead),
+            (16, 0x81, Why::BadHead),
+        ],
+    )?;
+    assert_eq!(rt; bytes, None);
+    let heads = wrong_head(&[
+        // Nothing, two picture headers, an extension alone; a header alone; a backward f_code of 10 in B.
+        (b"", Why::BadOrder),
+        (
+            b"\x00\x00\x01\x00\x00\x0F\xFF\xF8\x00\x00\x01\x00\x00\x0F\xFF\xF8",
+            Why::BadOrder,
+        ),
+        (b"\x00\x00\x01\xB5\x8F\xFF\xF3\x41\x80", Why::BadOrder),
+        (b"\x00\x00\x01\x00\x00\x0F\xFF\xF8", Why::BadHead),
+        (
+            b"\x00\x00\x01\x00\x00\x9F\xFF\xFB\xB8\x00\x00\x01\xB5\x81\x11\xA3\x41\x80",
+            Why::BadHead,
+        ),
+        // A D picture before a bit behind its header, an f_code of 0 before a field, a field before a bit behind.
+        (
+            b"\x00\x00\x01\x00\x00\x27\xFF\xF9\x00\x00\x01\xB5\x8F\xFF\xF3\x41\x80",
+            Why::Unsupported(6),
+        ),
+        (
+            b"\x00\x00\x01\x00\x00\x57\xFF\xFB\x80\x00\x00\x01\xB5\x80\x1F\xF1\x41\x80",
+            Why::BadHead,
+        ),
+        (
+            b"\x00\x00\x01\x00\x00\x57\xFF\xFB\x80\x00\x00\x01\xB5\x81\x1F\xF1\x41\x81",
+            Why::Unsupported(4),
+        ),
+    ]);
+    assert_eq!(rt; heads, None);
+    Ok(())
+}
+
+#[test]
+fn a_further_extension_is_refused_at_its_first_offence(rt: HostRuntime) {
+    let heads = wrong_head(&[
+        // A second coding extension, two scalable ones; of a matrix extension an entry 0, two loads for chroma, and a
+        // bit behind.
+        (
+            b"\x00\x00\x01\x00\x00\x0F\xFF\xF8\x00\x00\x01\xB5\x8F\xFF\xF3\x41\x80\x00\x00\x01\xB5\x8F",
+            Why::BadHead,
+        ),
+        (
+            b"\x00\x00\x01\x00\x00\x0F\xFF\xF8\x00\x00\x01\xB5\x8F\xFF\xF3\x41\x80\x00\x00\x01\xB5\x90",
+            Why::Unsupported(2),
+        ),
+        (
+            b"\x00\x00\x01\x00\x00\x0F\xFF\xF8\x00\x00\x01\xB5\x8F\xFF\xF3\x41\x80\x00\x00\x01\xB5\xA0",
+            Why::Unsupported(2),
+        ),
+        (
+            b"\x00\x00\x01\x00\x00\x0F\xFF\xF8\x00\x00\x01\xB5\x8F\xFF\xF3\x41\x80\x00\x00\x01\xB5\x38",
+            Why::BadHead,
+        ),
+        (
+            b"\x00\x00\x01\x00\x00\x0F\xFF\xF8\x00\x00\x01\xB5\x8F\xFF\xF3\x41\x80\x00\x00\x01\xB5\x32",
+            Why::BadHead,
+        ),
+        (
+            b"\x00\x00\x01\x00\x00\x0F\xFF\xF8\x00\x00\x01\xB5\x8F\xFF\xF3\x41\x80\x00\x00\x01\xB5\x31",
+            Why::BadHead,
+        ),
+        (
+            b"\x00\x00\x01\x00\x00\x0F\xFF\xF8\x00\x00\x01\xB5\x8F\xFF\xF3\x41\x80\x00\x00\x01\xB5\x30\x01",
+            Why::BadHead,
+        ),
+    ]);
+    assert_eq!(rt; heads, None);
+}
+
+#[test]
+fn the_sequence_part_of_a_prefix_is_found_behind_zeros(rt: HostRuntime) -> Result<(), Fail> {
+    let alloc = rt.alloc();
+    let prefix = join(
+        alloc,
+        &join(alloc, &[0, 0], PART)?,
+        &join(alloc, USER_DATA, GROUP)?,
+    )?;
+    assert_eq!(rt; sequence_part(&prefix), Some((2, 30)));
+    assert_eq!(rt; sequence_part(GROUP), None);
+    Ok(())
+}
+
+// Heads with a quant matrix extension that loads nothing, and with one behind which another element is refused.
+const EXTENDED: &[u8] =
+    b"\x00\x00\x01\x00\x00\x0F\xFF\xF8\x00\x00\x01\xB5\x8F\xFF\xF3\x41\x80\x00\x00\x01\xB5\x30";
+
+const REFUSED: &[u8] =
+    b"\x00\x00\x01\x00\x00\x0F\xFF\xF8\x00\x00\x01\xB5\x8F\xFF\xF3\x41\x80\x00\x00\x01\xB5\x30\x00\x00\x01\xB5\x8F\xFF\xF3\x41\x80";
+
+#[test]
+fn a_refused_unit_leaves_the_state_as_it_was(rt: HostRuntime) {
+    let mut state = HeadState::new();
+    assert_eq!(rt;
+        wrong_unit(&mut state, &[(GROUP, HEAD, Some(Why::BadOrder))]),
+        None
+    );
+    assert!(rt; state.context().is_none());
+    let units = wrong_unit(
+        &mut state,
+        &[
+            (PART, HEAD, None),
+            // Another size, behind which a scalable extension would be refused, and fields.
+            (
+                b"\x00\x00\x01\xB3\x07\x00\x40\x13\xFF\xFF\xE0\x18\x00\x00\x01\xB5\x14\x8A\x00\x01\x00\x00\x00\x00\x01\xB5\x50",
+                HEAD,
+                Some(Why::SizeChanged),
+            ),
+            (
+                b"\x00\x00\x01\xB3\x06\x00\x40\x13\xFF\xFF\xE3\x80\x00\x00\x01\xB5\x14\x82\x00\x01\x00\x00",
+                HEAD,
+                Some(Why::SizeChanged),
+            ),
+            (NONE, REFUSED, Some(Why::BadHead)),
+            // The refusal of the prefix comes before that of the head.
+            (
+                b"\x00\x00\x01\xB3\x06\x00\x40\x13\xFF\xFF\xE3\x80\x00\x00\x01\xB5\x14\x8A\x80\x01\x00\x00",
+                REFUSED,
+                Some(Why::Unsupported(3)),
+            ),
+        ],
+    );
+    assert_eq!(rt; units, None);
+    assert!(rt; !state.extended());
+    assert_eq!(rt; state.context().copied(), read_context(PART).ok());
+}
+
+#[test]
+fn a_matrix_extension_is_in_force_until_the_next_sequence_part(rt: HostRuntime) {
+    let mut state = HeadState::new();
+    assert_eq!(rt;
+        wrong_unit(&mut state, &[(PART, EXTENDED, None), (GROUP, P_HEAD, None)]),
+        None
+    );
+    assert!(rt; state.extended());
+    assert_eq!(rt; wrong_unit(&mut state, &[(PART, HEAD, None)]), None);
+    assert!(rt; !state.extended());
+}
+
+#[test]
+fn a_matrix_of_an_extension_stands_until_another_comes(rt: HostRuntime) -> Result<(), Fail> {
+    let alloc = rt.alloc();
+    // All entries of both matrices are 255.
+    let load = join(
+        alloc,
+        &[0, 0, 1, 0xB5, 0x3F],
+        &join(alloc, &[0xFF; 127], &[0xFC])?,
+    )?;
+    let head = join(alloc, HEAD, &load)?;
+    let later = join(alloc, P_HEAD, b"\x00\x00\x01\xB5\x30")?;
+    let mut state = HeadState::new();
+    assert_eq!(rt; wrong_unit(&mut state, &[(PART, &head, None)]), None);
+    let parts = UnitParts {
+        prefix: &[],
+        head: &later,
+        slices: &[],
+        zeros: 0,
+        end: None,
+    };
+    let kept = state.unit(&parts).ok().ok_or("refused")?;
+    assert_eq!(rt; kept.matrices.intra, [255; 64]);
+    assert_eq!(rt; kept.matrices.non_intra, [255; 64]);
+    Ok(())
+}
+
+#[test]
+fn at_most_sixteen_b_pictures_come_behind_an_anchor(rt: HostRuntime) {
+    let mut state = HeadState::new();
+    assert_eq!(rt;
+        wrong_unit(
+            &mut state,
+            &[(PART, B_HEAD, Some(Why::BadOrder)), (PART, HEAD, None)]
+        ),
+        None
+    );
+    let sixteen = [(NONE, B_HEAD, None); 16];
+    let last = [
+        (GROUP, B_HEAD, Some(Why::BadOrder)),
+        (NONE, P_HEAD, None),
+        (NONE, B_HEAD, None),
+    ];
+    assert_eq!(rt; wrong_unit(&mut state, &sixteen), None);
+    assert_eq!(rt; wrong_unit(&mut state, &last), None);
+    // A low delay.
+    let low_delay: &[u8] =
+        b"\x00\x00\x01\xB3\x06\x00\x40\x13\xFF\xFF\xE3\x80\x00\x00\x01\xB5\x14\x8A\x00\x01\x00\x80";
+    let units = [(low_delay, HEAD, None), (NONE, B_HEAD, Some(Why::BadOrder))];
+    assert_eq!(rt; wrong_unit(&mut state, &units), None);
+}
