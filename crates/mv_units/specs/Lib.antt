@@ -1,0 +1,4 @@
+pub mod Progress
+pub mod Table
+pub mod Units
+pub mod Walk
