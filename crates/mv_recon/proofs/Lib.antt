@@ -1,0 +1,4 @@
+pub mod Painted
+pub mod Laid
+pub mod Extension
+pub mod PictureLemmas

@@ -1,0 +1,4 @@
+pub mod Layout
+pub mod Raster
+pub mod Pictures
+pub mod Paint
