@@ -1,0 +1,2 @@
+pub mod FrameFile
+pub mod Endings
