@@ -1,0 +1,5 @@
+use Rattle.cert_picture.proofs.Order.{grows}
+use Rattle.cert_picture.proofs.growth_law.Goals as goal
+
+pub returns : goal.returns
+returns c = grows
