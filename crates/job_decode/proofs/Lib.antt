@@ -1,0 +1,13 @@
+mod Powers
+mod LookUp
+mod Columns
+mod SliceLemmas
+mod RowLemmas
+mod PairLemmas
+mod HeadLemmas
+mod PictureLemmas
+mod Sends
+mod BeginLemmas
+mod StreamLemmas
+mod OutcomeLemmas
+mod DefinedEnds

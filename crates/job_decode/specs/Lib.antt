@@ -1,0 +1,4 @@
+pub mod Early
+pub mod Pictures
+pub mod Reads
+pub mod Stream

@@ -1,0 +1,63 @@
+//! The job of `decode`: from the bytes of a stream to the frame file that it decodes to.
+//!
+//! Its promise: `decode_job` ends as `outcome_of` in `specs/Stream.antt` defines for the bytes of the named input, in
+//! status and output, but for want of memory and counted faults of its endpoints. What of a stream is decoded so far
+//! stands in `specs/Pictures.antt` and `specs/Early.antt`, and what the readers of the code answer in `specs/Reads.antt`.
+#![tactic(auto)]
+
+mod early;
+mod input;
+mod pictures;
+mod slices;
+mod stream;
+
+ghost use Rattle.std.specs.Prelude.{◌≡◌, ◌≢◌};
+ghost use Rattle.std.specs.Option.{ForSome};
+ghost use Rattle.std.specs.Io.KnownBytes.{IsAtEnd};
+ghost use Rattle.mv_ends.specs.Causes.{Rose, NeverFall, Counts, FailedWrite};
+ghost use Rattle.mv_ends.specs.Ends.{Ends};
+ghost use Rattle.mv_ends.specs.Moves.{input_of};
+ghost use Rattle.y4m_frames.specs.Endings.{ending_of};
+ghost use Rattle.job_decode.specs.Stream.{outcome_of};
+
+use crate::input::{Unread, read_input};
+use crate::stream::decode_stream;
+use mv_ends::{Shelf, Sink};
+use mv_terms::{Status, Why};
+use std::alloc::Global;
+
+/// Writes the frame file that the stream of this name decodes to, as far as it is decoded so far.
+///
+/// A stream has at most 16,777,216 bytes, and all of it is read before anything is written.
+pub fn decode_job<S: Shelf, O: Sink>(
+    alloc: Global,
+    name: &str,
+    shelf: &mut S,
+    out: &mut O,
+) -> Status
+    // Where the inputs are told, it ends as it is defined, but for want of memory and for the faults below.
+    ensures ends { ForSome (S.named shelf.old)
+        (λ inputs. Ends (outcome_of (input_of inputs name.now)) (ending_of result) (O.written out.old) (O.written out.new)) }
+    ensures done { result ≡ Status.Done → IsAtEnd (S.rest shelf.new) }
+    ensures form { result ≢ Status.Words }
+
+    // A fault of an endpoint is answered only where it was counted in this call, for this very name.
+    ensures open_fault { result ≡ Status.OpenFault → Rose (S.open_faults shelf.old name.now) (S.open_faults shelf.new name.now) }
+    ensures read_fault { result ≡ Status.ReadFault → Rose (S.read_faults shelf.old name.now) (S.read_faults shelf.new name.now) }
+    ensures write_fault { result ≡ Status.WriteFault → FailedWrite (O.faults out.old) (O.faults out.new) (O.room out.old) (O.written out.old) (O.written out.new) }
+
+    ensures same_room { O.room out.new ≡ O.room out.old }
+    ensures count { Counts (O.faults out.old) (O.faults out.new) (O.room out.old) (O.written out.old) (O.written out.new) }
+    ensures inputs { S.named shelf.new ≡ S.named shelf.old }
+    ensures opens { NeverFall (S.open_faults shelf.old) (S.open_faults shelf.new) }
+    ensures reads { NeverFall (S.read_faults shelf.old) (S.read_faults shelf.new) }
+{
+    let bytes = match read_input(alloc, name, shelf) {
+        Ok(bytes) => bytes,
+        Err(Unread::Open) => return Status::OpenFault,
+        Err(Unread::Read) => return Status::ReadFault,
+        Err(Unread::TooLong) => return Status::Unit(0, Why::TooLong),
+        Err(Unread::NoMemory) => return Status::NoMemory,
+    };
+    decode_stream(alloc, &bytes, out)
+}
