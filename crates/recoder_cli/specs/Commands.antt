@@ -1,0 +1,7 @@
+-- A command of the code as a form of words.
+use Rattle.recoder_cli.specs.Words.{Form, decode}
+use Rattle.recoder_cli.specs.declared.words.Command.{Command}
+use Rattle.recoder_cli.specs.declared.words.Command.TheVariants.{Decode}
+
+abbrev pub form_given : Command → Form
+form_given (Decode name) = decode name.now

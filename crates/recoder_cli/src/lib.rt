@@ -1,0 +1,76 @@
+//! The program's top call: from words to a command over named inputs, its output and the line of its status.
+//!
+//! Its promise: `run` ends as `outcome` in `specs/Outcomes.antt` defines for the form of the words and the inputs, in
+//! status and output, but for want of memory and counted faults of its endpoints. Which words have a form stands in
+//! `specs/Words.antt`, and what is said of a status in `specs/Says.antt`.
+#![tactic(auto)]
+
+mod clean;
+mod commands;
+mod say;
+#[cfg(test)]
+mod tests;
+mod words;
+
+ghost use Rattle.std.specs.Prelude.{◌≡◌, ◌↔◌, None};
+ghost use Rattle.std.specs.Option.{ForSome};
+ghost use Rattle.std.specs.Io.KnownBytes.{Keeps, IsAtEnd};
+ghost use Rattle.mv_ends.specs.Causes.{Rose, NeverFall, Counts, FailedWrite};
+ghost use Rattle.mv_ends.specs.Ends.{Ends};
+ghost use Rattle.mv_terms.specs.Texts.{line_of};
+ghost use Rattle.y4m_frames.specs.Endings.{ending_of};
+ghost use Rattle.recoder_cli.specs.Words.{form_of, texts, name_in};
+ghost use Rattle.recoder_cli.specs.Outcomes.{outcome};
+ghost use Rattle.recoder_cli.specs.Says.{Says};
+
+pub use clean::run_clean;
+pub use commands::perform;
+use mv_ends::{Shelf, Sink};
+use mv_terms::Status;
+pub use say::tell;
+use std::alloc::Global;
+pub use words::{Command, parse};
+
+/// Runs the command that the words behind the program's name give over the named inputs, writes its output to `out`
+/// and the line of its status to `say`. A fault of `say` changes no status.
+pub fn run<S: Shelf, O: Sink, M: Sink>(
+    alloc: Global,
+    words: &[String],
+    shelf: &mut S,
+    out: &mut O,
+    say: &mut M,
+) -> Status
+    // Where the inputs are told, a command ends as it is defined, but for want of memory and for the faults below.
+    ensures ends { ForSome (form_of (texts words.now)) (λ form. ForSome (S.named shelf.old)
+        (λ inputs. Ends (outcome form inputs) (ending_of result) (O.written out.old) (O.written out.new))) }
+    ensures done { result ≡ Status.Done → IsAtEnd (S.rest shelf.new) }
+
+    // The words alone decide whether they are of no form, and then nothing is written.
+    ensures words { (result ≡ Status.Words) ↔ (form_of (texts words.now) ≡ None) }
+    ensures nothing { result ≡ Status.Words → Keeps (O.written out.old) (O.written out.new) }
+
+    // A fault of an endpoint is answered only where it was counted in this call, for the name that the words give.
+    ensures open_fault { result ≡ Status.OpenFault → ForSome (form_of (texts words.now))
+        (λ form. Rose (S.open_faults shelf.old (name_in form)) (S.open_faults shelf.new (name_in form))) }
+    ensures read_fault { result ≡ Status.ReadFault → ForSome (form_of (texts words.now))
+        (λ form. Rose (S.read_faults shelf.old (name_in form)) (S.read_faults shelf.new (name_in form))) }
+    ensures write_fault { result ≡ Status.WriteFault → FailedWrite (O.faults out.old) (O.faults out.new) (O.room out.old) (O.written out.old) (O.written out.new) }
+
+    // The line of the status is said, as far as no write to `say` fails.
+    ensures said { Says (M.faults say.old) (M.faults say.new) (M.room say.old) (M.written say.old) (M.written say.new) (line_of result) }
+
+    ensures same_room { O.room out.new ≡ O.room out.old }
+    ensures count { Counts (O.faults out.old) (O.faults out.new) (O.room out.old) (O.written out.old) (O.written out.new) }
+    ensures say_room { M.room say.new ≡ M.room say.old }
+    ensures say_count { Counts (M.faults say.old) (M.faults say.new) (M.room say.old) (M.written say.old) (M.written say.new) }
+    ensures inputs { S.named shelf.new ≡ S.named shelf.old }
+    ensures opens { NeverFall (S.open_faults shelf.old) (S.open_faults shelf.new) }
+    ensures reads { NeverFall (S.read_faults shelf.old) (S.read_faults shelf.new) }
+{
+    let status = match parse(words) {
+        None => Status::Words,
+        Some(command) => perform(alloc, &command, shelf, out),
+    };
+    tell(say, &status);
+    status
+}
