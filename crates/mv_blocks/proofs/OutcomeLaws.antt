@@ -1,0 +1,188 @@
+-- Each list of bits has one outcome as a block: its levels, or its first refusal.
+use Rattle.std.proofs.Common.{◌≡◌, ℕ, zero, suc, ◌+◌, ◌<◌, ◌≤◌, Bool, true, false, List, [], ◌∷◌, drop, Option, None, Some, Result, Ok, Err, refl, ap, sym, subst, arith, inl, inr, ◌⊎◌, ℤ, pos, negsuc, eqb, ◌+ℤ◌, ◌≤ℤ◌, ◌<ℤ◌, ◌^◌}
+use Rattle.std.specs.Prelude.{nat_lt}
+use Rattle.std.proofs.lemmas.Bool.Decides.{nat_tests}
+use Rattle.std.proofs.lemmas.List.Elements.{All-nil}
+use Rattle.std.proofs.lemmas.Int.{ints}
+use Rattle.mv_terms.specs.declared.status.Why.{Why}
+use Rattle.mv_terms.specs.declared.status.Why.TheVariants.{BadCode, BadBlock}
+use Rattle.mv_bits.specs.Bits.{front}
+use Rattle.mv_bits.specs.Readings.{◌>>=◌, Gives, Field, Demands}
+use Rattle.mv_bits.proofs.RunLaws.{Ends-cons, Ends-none}
+use Rattle.mv_bits.proofs.ReadingLaws.{ok_same, ok_not_err}
+use Rattle.mv_codes.specs.declared.code.Code.{Code}
+use Rattle.mv_codes.specs.declared.coefficient.Coef.{Coef}
+use Rattle.mv_codes.specs.declared.coefficient.Coef.TheVariants as coef
+use Rattle.mv_codes.specs.Tables.{CodeOf, Begins, Spells, NoneBegins}
+use Rattle.mv_codes.specs.Sizes.{dc_size_codes}
+use Rattle.mv_codes.proofs.TableLaws.{Spells-here, Spells-later, NoneBegins-cons}
+use Rattle.mv_blocks.specs.declared.block.BlockCode.{BlockCode}
+use Rattle.mv_blocks.specs.declared.block.Pair.{Pair}
+use Rattle.mv_blocks.specs.Scans.{in_raster}
+use Rattle.mv_blocks.specs.Blocks.{At, StepsPair, StopsBlock, EndsBlock, Next, Coefficient, Escaped, Behind, IsInside, IsForbidden, signed_12, pair, codes_at, DcLevel, IsDcLevel, dct_diff, Pairs, BlockBy, Block, level_at, intra_level_at}
+use Rattle.mv_blocks.proofs.BlockLaws.{one_block}
+
+-- a reading has an outcome for all bits
+abbrev pub HasSome : {A W : Type 0} → (List Bool → Result (A × List Bool) W → Type 0) → Type 0
+HasSome {A} {W} reading = (bits : List Bool) → (outcome : Result (A × List Bool) W) × reading bits outcome
+
+module _ {A B W : Type 0} (F : List Bool → Result (A × List Bool) W → Type 0) (G : A → List Bool → Result (B × List Bool) W → Type 0) (g : (v : A) → HasSome (G v)) where
+  then_some : (bits : List Bool) (o : Result (A × List Bool) W) → F bits o → (p : Result (B × List Bool) W) × (F >>= G) bits p
+  then_some bits (Ok (v, rest)) h = let q = g v rest in (q.0, inl (v, rest, h, q.1))
+  then_some bits (Err why) h = (Err why, inr (why, h, refl))
+
+  some_after : HasSome F → HasSome (F >>= G)
+  some_after f bits = let q = f bits in then_some bits q.0 q.1
+
+some_given : {A W : Type 0} (v : A) → HasSome {A = A} {W = W} (Gives v)
+some_given v bits = (Ok (v, bits), refl)
+
+some_field : {W : Type 0} (n : ℕ) → HasSome {A = ℕ} {W = W} (Field n)
+some_field n bits = (Ok (front n bits, drop n bits), (refl, refl))
+
+some_demand : {W : Type 0} (Holds : Type 0) (why : W) → Holds ⊎ (Holds → ⊥) → HasSome {A = Unit {0}} {W = W} (Demands Holds why)
+some_demand Holds why (inl h) bits = (Ok (tt, bits), (h, refl))
+some_demand Holds why (inr n) bits = (Err why, (n, refl))
+
+same_number : (a b : ℕ) → eqb a b ≡ true → a ≡ b
+same_number a b e = grind (arith, nat_tests)
+
+other_number : (a b : ℕ) → eqb a b ≡ false → a ≡ b → ⊥
+other_number a b e same = grind (arith, nat_tests)
+
+module _ {M : Type 0} where
+  abbrev Found : List (Code M) → List Bool → Type 0
+  Found table bits = ((v : M) × (rest : List Bool) × Spells table bits v rest) ⊎ NoneBegins table bits
+
+  found_more : (c : Code M) (cs : List (Code M)) (bits : List Bool) (t : Bool) → eqb (front c.size bits) c.value ≡ t → Found cs bits → Found (c ∷ cs) bits
+  found_more c cs bits true e h = inl (c.meaning, drop c.size bits, Spells-here c cs bits (same_number (front c.size bits) c.value e))
+  found_more c cs bits false e (inl s) = inl (s.0, s.1, Spells-later c cs bits s.0 s.1 s.2)
+  found_more c cs bits false e (inr n) = inr (NoneBegins-cons c cs bits (other_number (front c.size bits) c.value e) n)
+
+  find_code : (table : List (Code M)) (bits : List Bool) → Found table bits
+  find_code [] bits = inr (All-nil (λ (c : Code M). Begins c bits → ⊥))
+  find_code (c ∷ cs) bits = found_more c cs bits (eqb (front c.size bits) c.value) refl (find_code cs bits)
+
+  code_outcome : {W : Type 0} (table : List (Code M)) (why : W) (bits : List Bool) → Found table bits → (o : Result (M × List Bool) W) × CodeOf table why bits o
+  code_outcome table why bits (inl s) = (Ok (s.0, s.1), s.2)
+  code_outcome table why bits (inr n) = (Err why, (n, refl))
+
+  some_code : {W : Type 0} (table : List (Code M)) (why : W) → HasSome (CodeOf table why)
+  some_code table why bits = code_outcome table why bits (find_code table bits)
+
+some_allowed : (n : ℕ) → IsForbidden (pos (suc n)) → ⊥
+some_allowed n (inl e) = omega (arith, ints)
+some_allowed n (inr e) = omega (arith, ints)
+
+negative_allowed : (n : ℕ) → (n ≡ 2047 → ⊥) → IsForbidden (negsuc n) → ⊥
+negative_allowed n other (inl e) = omega (arith, ints)
+negative_allowed n other (inr e) = other (omega (arith, ints))
+
+negative_or_not : (n : ℕ) (t : Bool) → eqb n 2047 ≡ t → (IsForbidden (negsuc n) → ⊥) ⊎ ((IsForbidden (negsuc n) → ⊥) → ⊥)
+negative_or_not n true e = inr (λ allowed. allowed (inr (ap negsuc (same_number n 2047 e))))
+negative_or_not n false e = inl (negative_allowed n (other_number n 2047 e))
+
+allowed_or_not : (level : ℤ) → (IsForbidden level → ⊥) ⊎ ((IsForbidden level → ⊥) → ⊥)
+allowed_or_not (pos zero) = inr (λ allowed. allowed (inl refl))
+allowed_or_not (pos (suc n)) = inl (some_allowed n)
+allowed_or_not (negsuc n) = negative_or_not n (eqb n 2047) refl
+
+below_or_not : (n bound : ℕ) → (n < bound) ⊎ (n < bound → ⊥)
+below_or_not n bound = go n bound (nat_lt n bound) refl
+  where
+    go : (n bound : ℕ) (t : Bool) → nat_lt n bound ≡ t → (n < bound) ⊎ (n < bound → ⊥)
+    go n bound true e = inl (grind (arith, nat_tests))
+    go n bound false e = inr (λ h. grind (arith, nat_tests))
+
+within_or_not : (level : ℤ) (bound : ℕ) → ((pos 0 ≤ℤ level) × (level <ℤ pos bound)) ⊎ ((pos 0 ≤ℤ level) × (level <ℤ pos bound) → ⊥)
+within_or_not (pos n) bound = go n bound (below_or_not n bound)
+  where
+    go : (n bound : ℕ) → (n < bound) ⊎ (n < bound → ⊥) → ((pos 0 ≤ℤ pos n) × (pos n <ℤ pos bound)) ⊎ ((pos 0 ≤ℤ pos n) × (pos n <ℤ pos bound) → ⊥)
+    go n bound (inl h) = inl (omega (arith, ints), omega (arith, ints))
+    go n bound (inr past) = inr (λ h. past (omega (arith, ints, h.1)))
+within_or_not (negsuc n) bound = inr (λ h. omega (arith, ints, h.0))
+
+dc_or_not : (precision : ℕ) (level : ℤ) → IsDcLevel precision level ⊎ (IsDcLevel precision level → ⊥)
+dc_or_not precision level = within_or_not level (2 ^ (8 + precision))
+
+inside_or_not : (place : ℕ) (found : Option Pair) → IsInside place found ⊎ (IsInside place found → ⊥)
+inside_or_not place None = inl tt
+inside_or_not place (Some p) = below_or_not (place + p.run) 64
+
+some_escaped : HasSome Escaped
+some_escaped =
+    some_after (Field 6) _ (λ run.
+    some_after (Field 12) _ (λ number.
+    some_after (Demands (IsForbidden (signed_12 number) → ⊥) BadBlock) _ (λ allowed.
+    some_given (Some (pair run (signed_12 number))))
+    (some_demand (IsForbidden (signed_12 number) → ⊥) BadBlock (allowed_or_not (signed_12 number))))
+    (some_field 12))
+    (some_field 6)
+
+some_behind : (code : Coef) → HasSome (Behind code)
+some_behind coef.End = some_given None
+some_behind coef.Escape = some_escaped
+some_behind (coef.Pair run level) = some_given (Some (pair run level))
+
+module _ (kind : BlockCode) where
+  some_coefficient : (place : ℕ) → HasSome (Coefficient kind place)
+  some_coefficient place = some_after (CodeOf (codes_at kind place) BadCode) Behind some_behind (some_code (codes_at kind place) BadCode)
+
+  some_next : (place : ℕ) → HasSome (Next kind place)
+  some_next place =
+      some_after (Coefficient kind place) _ (λ found.
+      some_after (Demands (IsInside place found) BadBlock) _ (λ inside. some_given found)
+      (some_demand (IsInside place found) BadBlock (inside_or_not place found)))
+      (some_coefficient place)
+
+  next_inside : (place : ℕ) (bits : List Bool) (p : Pair) (rest : List Bool) → Next kind place bits (Ok (Some p, rest)) → place + p.run < 64
+  next_inside place bits p rest (inl (found, more, code, inl (held, left, demand, gives))) =
+      subst (λ (x : Option Pair). IsInside place x) (sym (ap (λ (x : Option Pair × List Bool). x.0) (ok_same _ _ gives))) demand.0
+  next_inside place bits p rest (inl (found, more, code, inr (why, demand, gives))) = absurd (ok_not_err _ _ gives)
+  next_inside place bits p rest (inr (why, code, gives)) = absurd (ok_not_err _ _ gives)
+
+  abbrev Ended : ℕ → List Bool → Type 0
+  Ended place bits = (ps : List Pair) × (o : Result (List Bool) Why) × EndsBlock kind place bits ps o
+
+  abbrev at : ℕ → List Bool → At
+  at place bits = record { place = place; bits = bits }
+
+  ended_after : (place : ℕ) (bits : List Bool) (o : Result (Option Pair × List Bool) Why) → Next kind place bits o → ((p : Pair) (rest : List Bool) → place + p.run < 64 → Ended (place + p.run + 1) rest) → Ended place bits
+  ended_after place bits (Ok (None, rest)) h more = ([], Ok rest, Ends-none (StepsPair kind) (StopsBlock kind) (at place bits) (Ok rest) h)
+  ended_after place bits (Ok (Some p, rest)) h more =
+      let q = more p rest (next_inside place bits p rest h) in
+      (p ∷ q.0, q.1, Ends-cons (StepsPair kind) (StopsBlock kind) p q.0 (at place bits) (at (place + p.run + 1) rest) q.1 (record { is_next = h; next = refl }) q.2)
+  ended_after place bits (Err why) h more = ([], Err why, Ends-none (StepsPair kind) (StopsBlock kind) (at place bits) (Err why) h)
+
+  ended : (places place : ℕ) (bits : List Bool) → 64 ≤ place + places → Ended place bits
+  ended zero place bits h = let q = some_next place bits in ended_after place bits q.0 q.1 (λ p rest inside. absurd (omega arith))
+  ended (suc places) place bits h = let q = some_next place bits in ended_after place bits q.0 q.1 (λ p rest inside. ended places (place + p.run + 1) rest (omega arith))
+
+  pairs_outcome : (start : ℕ) (bits : List Bool) → Ended start bits → (o : Result (List Pair × List Bool) Why) × Pairs kind start bits o
+  pairs_outcome start bits (ps, Ok rest, h) = (Ok (ps, rest), h)
+  pairs_outcome start bits (ps, Err why, h) = (Err why, (ps, h))
+
+  some_pairs : (start : ℕ) → HasSome (Pairs kind start)
+  some_pairs start bits = pairs_outcome start bits (ended 64 start bits (omega arith))
+
+  some_dc_level : (predictor : ℤ) → HasSome (DcLevel kind predictor)
+  some_dc_level predictor =
+      some_after (CodeOf (dc_size_codes kind.luma) BadCode) _ (λ size.
+      some_after (Field size) _ (λ differential.
+      some_after (Demands (IsDcLevel kind.dc_precision (predictor +ℤ dct_diff size differential)) BadBlock) _ (λ inside. some_given (predictor +ℤ dct_diff size differential))
+      (some_demand (IsDcLevel kind.dc_precision (predictor +ℤ dct_diff size differential)) BadBlock (dc_or_not kind.dc_precision (predictor +ℤ dct_diff size differential))))
+      (some_field size))
+      (some_code (dc_size_codes kind.luma) BadCode)
+
+  some_by : (intra : Bool) (predictor : ℤ) → HasSome (BlockBy intra kind predictor)
+  some_by true predictor =
+      some_after (DcLevel kind predictor) _ (λ dc.
+      some_after (Pairs kind 1) _ (λ pairs. some_given (in_raster kind.alternate (intra_level_at dc pairs))) (some_pairs 1))
+      (some_dc_level predictor)
+  some_by false predictor = some_after (Pairs kind 0) _ (λ pairs. some_given (in_raster kind.alternate (level_at 0 pairs))) (some_pairs 0)
+
+  -- exactly one outcome holds: the levels of a block and the bits behind it, or a first refusal
+  pub one_outcome : (predictor : ℤ) (bits : List Bool) → (o : Result (List ℤ × List Bool) Why) × Block kind predictor bits o × ((p : Result (List ℤ × List Bool) Why) → Block kind predictor bits p → p ≡ o)
+  one_outcome predictor bits =
+      let q = some_by kind.intra predictor bits in
+      (q.0, q.1, λ p h. one_block kind predictor bits p q.0 h q.1)

@@ -1,0 +1,119 @@
+ghost use Rattle.std.specs.Prelude.{◌≤◌};
+
+use super::*;
+use mv_bits::BitWindow;
+use mv_terms::Why;
+
+const INTRA: BlockCode = BlockCode {
+    intra: true,
+    luma: true,
+    table_15: false,
+    alternate: false,
+    dc_precision: 0,
+};
+
+const NON_INTRA: BlockCode = BlockCode {
+    intra: false,
+    ..INTRA
+};
+
+fn read(bytes: &[u8], kind: BlockCode) -> (Result<(), Why>, [i16; 64], i16)
+    requires { kind.dc_precision ≤ 3 }
+{
+    let mut levels = [7; 64];
+    let mut dc = 128;
+    let answer = read_block(&mut BitWindow::new(bytes), kind, &mut dc, &mut levels);
+    (answer, levels, dc)
+}
+
+/// The first block of a picture that an encoder wrote: a pattern of columns.
+#[test]
+fn an_intra_block_is_read_by_table_b_14(rt: HostRuntime) {
+    let (answer, levels, dc) = read(
+        &[
+            0xF9, 0x58, 0x09, 0x81, 0x0C, 0x01, 0x8A, 0x0F, 0x00, 0x1A, 0xFB,
+        ],
+        INTRA,
+    );
+    assert_eq!(rt; answer, Ok(()));
+    assert_eq!(rt; dc, 44);
+    let mut wanted = [0; 64];
+    wanted[..8].copy_from_slice(&[44, 10, 6, 3, 0, -1, -2, -1]);
+    assert_eq!(rt; levels, wanted);
+    let pairs = pairs(&levels, true, false);
+    let runs = [(0, 10), (3, 6), (0, 3), (8, -1), (11, -2), (0, -1)];
+    assert_eq!(rt; pairs.len(), runs.len());
+    for (pair, (run, level)) in pairs.iter().zip(runs) {
+        assert_eq!(rt; *pair, Pair { run, level });
+    }
+}
+
+#[test]
+fn an_intra_block_is_read_by_table_b_15_and_the_alternate_scan(rt: HostRuntime) {
+    let kind = BlockCode {
+        table_15: true,
+        alternate: true,
+        ..INTRA
+    };
+    let (answer, levels, dc) = read(&[0xDE, 0x2F, 0x5B], kind);
+    assert_eq!(rt; answer, Ok(()));
+    assert_eq!(rt; dc, 143);
+    let mut wanted = [0; 64];
+    wanted[0] = 143;
+    wanted[8] = -6;
+    wanted[16] = -2;
+    assert_eq!(rt; levels, wanted);
+}
+
+#[test]
+fn no_end_stands_in_first_place(rt: HostRuntime) {
+    for (bits, level) in [(0xA0, 1), (0xE0, -1)] {
+        let (answer, levels, dc) = read(&[bits], NON_INTRA);
+        assert_eq!(rt; answer, Ok(()));
+        assert_eq!(rt; dc, 128);
+        assert_eq!(rt; levels[0], level);
+        assert!(rt; levels[1..].iter().all(|level| *level == 0));
+    }
+}
+
+#[test]
+fn escapes_have_each_level_but_0_and_minus_2048(rt: HostRuntime) {
+    let (answer, levels, _) = read(&[0x04, 0x08, 0x01, 0x80], NON_INTRA);
+    assert_eq!(rt; answer, Ok(()));
+    assert_eq!(rt; levels[0], -2047);
+    assert_eq!(rt;
+        read(&[0x04, 0x08, 0x00, 0x80], NON_INTRA).0,
+        Err(Why::BadBlock)
+    );
+    assert_eq!(rt;
+        read(&[0x04, 0x00, 0x00, 0x80], NON_INTRA).0,
+        Err(Why::BadBlock)
+    );
+}
+
+#[test]
+fn the_last_place_is_63(rt: HostRuntime) {
+    let (answer, levels, _) = read(&[0x07, 0xF0, 0x01, 0x80], NON_INTRA);
+    assert_eq!(rt; answer, Ok(()));
+    assert_eq!(rt; levels[63], 1);
+    assert_eq!(rt;
+        read(&[0x07, 0xF0, 0x01, 0xC0], NON_INTRA).0,
+        Err(Why::BadBlock)
+    );
+    assert_eq!(rt;
+        read(&[0x07, 0xF0, 0x01, 0x00], NON_INTRA).0,
+        Err(Why::BadCode)
+    );
+}
+
+#[test]
+fn a_dc_level_fits_its_precision(rt: HostRuntime) {
+    // from the predictor 128, the differences 127 and 128
+    assert_eq!(rt; read(&[0xFB, 0xFC], INTRA).2, 255);
+    assert_eq!(rt; read(&[0xFD, 0x01, 0x00], INTRA).0, Err(Why::BadBlock));
+    let precise = BlockCode {
+        dc_precision: 1,
+        ..INTRA
+    };
+    assert_eq!(rt; read(&[0xFD, 0x01, 0x00], precise).2, 256);
+}
