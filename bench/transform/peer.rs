@@ -1,0 +1,129 @@
+//! The same transform in Rust, and the same million blocks in each direction.
+
+use std::time::Instant;
+
+// A million blocks, in slices short enough that some of them run undisturbed.
+const SLICES: u32 = 50;
+const BLOCKS: u32 = 20_000;
+
+#[rustfmt::skip]
+static BY_FREQUENCY: [[i16; 8]; 8] = [
+    [2896,  2896,  2896,  2896,  2896,  2896,  2896,  2896],
+    [4017,  3406,  2276,   799,  -799, -2276, -3406, -4017],
+    [3784,  1567, -1567, -3784, -3784, -1567,  1567,  3784],
+    [3406,  -799, -4017, -2276,  2276,  4017,   799, -3406],
+    [2896, -2896, -2896,  2896,  2896, -2896, -2896,  2896],
+    [2276, -4017,   799,  3406, -3406,  -799,  4017, -2276],
+    [1567, -3784,  3784, -1567, -1567,  3784, -3784,  1567],
+    [ 799, -2276,  3406, -4017,  4017, -3406,  2276,  -799],
+];
+
+fn weight(u: usize, x: usize) -> i64 {
+    i64::from(BY_FREQUENCY[u][x])
+}
+
+fn inverse_of_line(line: &[i64; 8]) -> [i64; 8] {
+    let term = |u: usize, x: usize| weight(u, x) * line[u];
+    let mut sums = [0; 8];
+    for x in 0..4 {
+        let even = (term(0, x) + term(2, x)) + (term(4, x) + term(6, x));
+        let odd = (term(1, x) + term(3, x)) + (term(5, x) + term(7, x));
+        sums[x] = even + odd;
+        sums[7 - x] = even - odd;
+    }
+    sums
+}
+
+fn forward_of_line(line: &[i64; 8]) -> [i64; 8] {
+    let even = |u: usize, x: usize| weight(u, x) * (line[x] + line[7 - x]);
+    let odd = |u: usize, x: usize| weight(u, x) * (line[x] - line[7 - x]);
+    let mut sums = [0; 8];
+    for k in 0..4 {
+        let (e, o) = (2 * k, 2 * k + 1);
+        sums[e] = (even(e, 0) + even(e, 1)) + (even(e, 2) + even(e, 3));
+        sums[o] = (odd(o, 0) + odd(o, 1)) + (odd(o, 2) + odd(o, 3));
+    }
+    sums
+}
+
+fn of_rows(block: &[i64; 64], of_line: impl Fn(&[i64; 8]) -> [i64; 8]) -> [i64; 64] {
+    let mut turned = [0; 64];
+    for row in 0..8 {
+        let mut line = [0; 8];
+        line.copy_from_slice(&block[8 * row..8 * row + 8]);
+        let line = of_line(&line);
+        for k in 0..8 {
+            turned[8 * k + row] = line[k];
+        }
+    }
+    turned
+}
+
+fn widened(block: &[i16; 64]) -> [i64; 64] {
+    let mut wide = [0; 64];
+    for k in 0..64 {
+        wide[k] = i64::from(block[k]);
+    }
+    wide
+}
+
+fn rounded(sum: i64) -> i64 {
+    (sum + 0x200_0000) >> 26
+}
+
+fn inverse(c: &[i16; 64]) -> [i16; 64] {
+    let sums = of_rows(&of_rows(&widened(c), inverse_of_line), inverse_of_line);
+    let mut samples = [0; 64];
+    for k in 0..64 {
+        samples[k] = rounded(sums[k]).min(255).max(-256) as i16;
+    }
+    samples
+}
+
+fn forward(s: &[i16; 64]) -> [i16; 64] {
+    let sums = of_rows(&of_rows(&widened(s), forward_of_line), forward_of_line);
+    let mut coefficients = [0; 64];
+    for k in 0..64 {
+        coefficients[k] = rounded(sums[k]) as i16;
+    }
+    coefficients
+}
+
+fn total(block: &[i16; 64]) -> u64 {
+    let mut total = 0u64;
+    for value in block {
+        total = total.wrapping_add(u64::from(value.unsigned_abs()));
+    }
+    total
+}
+
+fn inverses() -> u64 {
+    let mut block = [0; 64];
+    let mut sum = 0u64;
+    for i in 0..BLOCKS {
+        block[i as usize % 64] = (i.wrapping_mul(2_654_435_761) % 4096) as i16 - 2048;
+        sum = sum.wrapping_add(total(&inverse(&block)));
+    }
+    sum
+}
+
+fn forwards() -> u64 {
+    let mut block = [0; 64];
+    let mut sum = 0u64;
+    for i in 0..BLOCKS {
+        block[i as usize % 64] = (i.wrapping_mul(2_654_435_761) % 511) as i16 - 255;
+        sum = sum.wrapping_add(total(&forward(&block)));
+    }
+    sum
+}
+
+fn main() {
+    for _ in 0..SLICES {
+        let start = Instant::now();
+        let sum = inverses();
+        println!("inverse {} {sum}", start.elapsed().as_nanos());
+        let start = Instant::now();
+        let sum = forwards();
+        println!("forward {} {sum}", start.elapsed().as_nanos());
+    }
+}
