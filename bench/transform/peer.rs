@@ -97,33 +97,26 @@ fn total(block: &[i16; 64]) -> u64 {
     total
 }
 
-fn inverses() -> u64 {
+// Transforms blocks of which each differs from the one before in a value, from -low to range - low - 1.
+fn of_blocks(range: u32, low: i16, transform: impl Fn(&[i16; 64]) -> [i16; 64]) -> u64 {
     let mut block = [0; 64];
     let mut sum = 0u64;
     for i in 0..BLOCKS {
-        block[i as usize % 64] = (i.wrapping_mul(2_654_435_761) % 4096) as i16 - 2048;
-        sum = sum.wrapping_add(total(&inverse(&block)));
+        block[i as usize % 64] = (i.wrapping_mul(2_654_435_761) % range) as i16 - low;
+        sum = sum.wrapping_add(total(&transform(&block)));
     }
     sum
 }
 
-fn forwards() -> u64 {
-    let mut block = [0; 64];
-    let mut sum = 0u64;
-    for i in 0..BLOCKS {
-        block[i as usize % 64] = (i.wrapping_mul(2_654_435_761) % 511) as i16 - 255;
-        sum = sum.wrapping_add(total(&forward(&block)));
-    }
-    sum
+fn timed(direction: &str, work: impl Fn() -> u64) {
+    let start = Instant::now();
+    let sum = work();
+    println!("{direction} {} {sum}", start.elapsed().as_nanos());
 }
 
 fn main() {
     for _ in 0..SLICES {
-        let start = Instant::now();
-        let sum = inverses();
-        println!("inverse {} {sum}", start.elapsed().as_nanos());
-        let start = Instant::now();
-        let sum = forwards();
-        println!("forward {} {sum}", start.elapsed().as_nanos());
+        timed("inverse", || of_blocks(4096, 2048, inverse));
+        timed("forward", || of_blocks(511, 255, forward));
     }
 }

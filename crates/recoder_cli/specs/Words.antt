@@ -1,19 +1,15 @@
 -- The forms of the words behind the program's name.
-use Rattle.std.specs.Prelude.{ℕ, Bool, true, false, List, [], ◌∷◌, map, codes, Option, None, Some, if◌then◌else◌, string_bytes, String}
+use Rattle.std.specs.Prelude.{ℕ, ◌==◌, List, length, [], ◌∷◌, map, codes, Option, None, Some, if◌then◌else◌, string_bytes, String}
 use Rattle.std.specs.Str.{bytes_eq}
 
 -- a command, with the names that it was given
 pub data Form : Type 0 where
   decode : List ℕ → Form
 
-abbrev pub is_empty : List ℕ → Bool
-is_empty [] = true
-is_empty (b ∷ bs) = false
-
 -- what a verb with a name asks for; a name isn't empty
 abbrev pub named_form : List ℕ → List ℕ → Option Form
 named_form verb name =
-    if is_empty name then None
+    if length name == 0 then None
     else if bytes_eq verb (codes "decode") then Some (decode name)
     else None
 
