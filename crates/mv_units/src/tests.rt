@@ -79,6 +79,18 @@ fn a_stream_is_cut_alike_wherever_it_is_cut_into_two_pieces(rt: HostRuntime) -> 
     Ok(())
 }
 
+#[test]
+fn a_stream_is_cut_alike_byte_by_byte(rt: HostRuntime) -> Result<(), Fail> {
+    let mut bytes: [&[u8]; 65] = [&[]; 65];
+    for at in 0..65 {
+        bytes[at] = &TWO_UNITS[at..at + 1];
+    }
+    let (log, state) = cut(rt.alloc(), &bytes)?;
+    assert_eq!(rt; log.as_slice(), ENTRIES.as_slice());
+    assert_eq!(rt; state, Cut::Ended);
+    Ok(())
+}
+
 /// Feeds a stream byte by byte: after how many bytes a refusal stands, and the refusal, at the end where none does.
 fn first_refusal(alloc: Global, stream: &[u8]) -> Result<(usize, Cut), Fail> {
     let mut cutter = Cutter::start(alloc)?;
@@ -142,5 +154,24 @@ fn zero_bytes_in_front_count_to_the_prefix_as_they_come(rt: HostRuntime) -> Resu
     assert_eq!(rt; cutter.state(), Cut::More);
     feed(&mut cutter, &[0], &mut log)?;
     assert_eq!(rt; cutter.state(), Cut::Refused(Why::UnitTooLong));
+    Ok(())
+}
+
+#[test]
+fn a_head_and_slices_have_at_most_16777216_bytes(rt: HostRuntime) -> Result<(), Fail> {
+    let begins: [&[u8]; 2] = [
+        &[0, 0, 1, 0xB3, 0, 0, 1, 0],
+        &[0, 0, 1, 0xB3, 0, 0, 1, 0, 0, 0, 1, 1],
+    ];
+    let others = vec![in rt.alloc(); 7u8; 16_777_212]?;
+    for begin in begins {
+        let mut cutter = Cutter::start(rt.alloc())?;
+        let mut log = Vec::new(rt.alloc());
+        feed(&mut cutter, begin, &mut log)?;
+        feed(&mut cutter, &others, &mut log)?;
+        assert_eq!(rt; cutter.state(), Cut::More);
+        feed(&mut cutter, &[7], &mut log)?;
+        assert_eq!(rt; cutter.state(), Cut::Refused(Why::UnitTooLong));
+    }
     Ok(())
 }

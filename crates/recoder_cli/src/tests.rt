@@ -168,6 +168,28 @@ fn faults_of_endpoints_leave_a_front_of_the_frames(rt: HostRuntime) -> Result<()
     Ok(())
 }
 
+// Each write fails in turn: those of the header line, of `FRAME` and of the samples, in front of which 46 bytes stand.
+#[test]
+fn a_failing_write_ends_the_output_there(rt: HostRuntime) -> Result<(), Fail> {
+    let alloc = rt.alloc();
+    let file = grey_frames(alloc, 1)?;
+    let words = words(alloc, &["decode", "a"])?;
+    let mut before = 0;
+    for call in 0..13u64 {
+        let mut shelf = CleanShelf::new(inputs(alloc, &example(alloc)?)?);
+        let mut out = MemSink::failing(alloc, 20_000, vec![in alloc; call; 1]?, usize::MAX)?;
+        let mut say = MemSink::with_room(alloc, 40)?;
+        let status = run(alloc, &words, &mut shelf, &mut out, &mut say);
+        assert_eq!(rt; status, Status::WriteFault);
+        let arrived = out.bytes().len();
+        assert!(rt; call == 0 || before < arrived);
+        assert_eq!(rt; Some(out.bytes()), file.get(..arrived));
+        before = arrived;
+    }
+    assert_eq!(rt; before, 46);
+    Ok(())
+}
+
 #[test]
 fn a_fault_of_what_is_said_changes_no_status(rt: HostRuntime) -> Result<(), Fail> {
     let alloc = rt.alloc();
