@@ -4,4 +4,5 @@ pub mod StartLaws
 pub mod CutLaws
 pub mod RunLaws
 pub mod ReadingLaws
+pub mod Decisions
 mod WindowLemmas

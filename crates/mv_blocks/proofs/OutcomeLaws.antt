@@ -1,74 +1,22 @@
 -- Each list of bits has one outcome as a block: its levels, or its first refusal.
-use Rattle.std.proofs.Common.{◌≡◌, ℕ, zero, suc, ◌+◌, ◌<◌, ◌≤◌, Bool, true, false, List, [], ◌∷◌, drop, Option, None, Some, Result, Ok, Err, refl, ap, sym, subst, arith, inl, inr, ◌⊎◌, ℤ, pos, negsuc, eqb, ◌+ℤ◌, ◌≤ℤ◌, ◌<ℤ◌, ◌^◌}
-use Rattle.std.specs.Prelude.{nat_lt}
-use Rattle.std.proofs.lemmas.Bool.Decides.{nat_tests}
-use Rattle.std.proofs.lemmas.List.Elements.{All-nil}
+use Rattle.std.proofs.Common.{◌≡◌, ℕ, zero, suc, ◌+◌, ◌<◌, ◌≤◌, Bool, true, false, List, [], ◌∷◌, Option, None, Some, Result, Ok, Err, refl, ap, sym, subst, arith, inl, inr, ◌⊎◌, ℤ, pos, negsuc, ◌+ℤ◌, ◌≤ℤ◌, ◌<ℤ◌, ◌^◌}
 use Rattle.std.proofs.lemmas.Int.{ints}
 use Rattle.mv_terms.specs.declared.status.Why.{Why}
 use Rattle.mv_terms.specs.declared.status.Why.TheVariants.{BadCode, BadBlock}
-use Rattle.mv_bits.specs.Bits.{front}
-use Rattle.mv_bits.specs.Readings.{◌>>=◌, Gives, Field, Demands}
+use Rattle.mv_bits.specs.Readings.{Field, Demands, HasSome}
+use Rattle.mv_bits.proofs.Decisions.{Decided, equal_or_not, below_or_not}
 use Rattle.mv_bits.proofs.RunLaws.{Ends-cons, Ends-none}
-use Rattle.mv_bits.proofs.ReadingLaws.{ok_same, ok_not_err}
-use Rattle.mv_codes.specs.declared.code.Code.{Code}
+use Rattle.mv_bits.proofs.ReadingLaws.{ok_same, ok_not_err, some_after, some_given, some_field, some_demand}
 use Rattle.mv_codes.specs.declared.coefficient.Coef.{Coef}
 use Rattle.mv_codes.specs.declared.coefficient.Coef.TheVariants as coef
-use Rattle.mv_codes.specs.Tables.{CodeOf, Begins, Spells, NoneBegins}
+use Rattle.mv_codes.specs.Tables.{CodeOf}
 use Rattle.mv_codes.specs.Sizes.{dc_size_codes}
-use Rattle.mv_codes.proofs.TableLaws.{Spells-here, Spells-later, NoneBegins-cons}
+use Rattle.mv_codes.proofs.TableLaws.{some_code}
 use Rattle.mv_blocks.specs.declared.block.BlockCode.{BlockCode}
 use Rattle.mv_blocks.specs.declared.block.Pair.{Pair}
 use Rattle.mv_blocks.specs.Scans.{in_raster}
 use Rattle.mv_blocks.specs.Blocks.{At, StepsPair, StopsBlock, EndsBlock, Next, Coefficient, Escaped, Behind, IsInside, IsForbidden, signed_12, pair, codes_at, DcLevel, IsDcLevel, dct_diff, Pairs, BlockBy, Block, level_at, intra_level_at}
 use Rattle.mv_blocks.proofs.BlockLaws.{one_block}
-
--- a reading has an outcome for all bits
-abbrev pub HasSome : {A W : Type 0} → (List Bool → Result (A × List Bool) W → Type 0) → Type 0
-HasSome {A} {W} reading = (bits : List Bool) → (outcome : Result (A × List Bool) W) × reading bits outcome
-
-module _ {A B W : Type 0} (F : List Bool → Result (A × List Bool) W → Type 0) (G : A → List Bool → Result (B × List Bool) W → Type 0) (g : (v : A) → HasSome (G v)) where
-  then_some : (bits : List Bool) (o : Result (A × List Bool) W) → F bits o → (p : Result (B × List Bool) W) × (F >>= G) bits p
-  then_some bits (Ok (v, rest)) h = let q = g v rest in (q.0, inl (v, rest, h, q.1))
-  then_some bits (Err why) h = (Err why, inr (why, h, refl))
-
-  some_after : HasSome F → HasSome (F >>= G)
-  some_after f bits = let q = f bits in then_some bits q.0 q.1
-
-some_given : {A W : Type 0} (v : A) → HasSome {A = A} {W = W} (Gives v)
-some_given v bits = (Ok (v, bits), refl)
-
-some_field : {W : Type 0} (n : ℕ) → HasSome {A = ℕ} {W = W} (Field n)
-some_field n bits = (Ok (front n bits, drop n bits), (refl, refl))
-
-some_demand : {W : Type 0} (Holds : Type 0) (why : W) → Holds ⊎ (Holds → ⊥) → HasSome {A = Unit {0}} {W = W} (Demands Holds why)
-some_demand Holds why (inl h) bits = (Ok (tt, bits), (h, refl))
-some_demand Holds why (inr n) bits = (Err why, (n, refl))
-
-same_number : (a b : ℕ) → eqb a b ≡ true → a ≡ b
-same_number a b e = grind (arith, nat_tests)
-
-other_number : (a b : ℕ) → eqb a b ≡ false → a ≡ b → ⊥
-other_number a b e same = grind (arith, nat_tests)
-
-module _ {M : Type 0} where
-  abbrev Found : List (Code M) → List Bool → Type 0
-  Found table bits = ((v : M) × (rest : List Bool) × Spells table bits v rest) ⊎ NoneBegins table bits
-
-  found_more : (c : Code M) (cs : List (Code M)) (bits : List Bool) (t : Bool) → eqb (front c.size bits) c.value ≡ t → Found cs bits → Found (c ∷ cs) bits
-  found_more c cs bits true e h = inl (c.meaning, drop c.size bits, Spells-here c cs bits (same_number (front c.size bits) c.value e))
-  found_more c cs bits false e (inl s) = inl (s.0, s.1, Spells-later c cs bits s.0 s.1 s.2)
-  found_more c cs bits false e (inr n) = inr (NoneBegins-cons c cs bits (other_number (front c.size bits) c.value e) n)
-
-  find_code : (table : List (Code M)) (bits : List Bool) → Found table bits
-  find_code [] bits = inr (All-nil (λ (c : Code M). Begins c bits → ⊥))
-  find_code (c ∷ cs) bits = found_more c cs bits (eqb (front c.size bits) c.value) refl (find_code cs bits)
-
-  code_outcome : {W : Type 0} (table : List (Code M)) (why : W) (bits : List Bool) → Found table bits → (o : Result (M × List Bool) W) × CodeOf table why bits o
-  code_outcome table why bits (inl s) = (Ok (s.0, s.1), s.2)
-  code_outcome table why bits (inr n) = (Err why, (n, refl))
-
-  some_code : {W : Type 0} (table : List (Code M)) (why : W) → HasSome (CodeOf table why)
-  some_code table why bits = code_outcome table why bits (find_code table bits)
 
 some_allowed : (n : ℕ) → IsForbidden (pos (suc n)) → ⊥
 some_allowed n (inl e) = omega (arith, ints)
@@ -78,21 +26,14 @@ negative_allowed : (n : ℕ) → (n ≡ 2047 → ⊥) → IsForbidden (negsuc n)
 negative_allowed n other (inl e) = omega (arith, ints)
 negative_allowed n other (inr e) = other (omega (arith, ints))
 
-negative_or_not : (n : ℕ) (t : Bool) → eqb n 2047 ≡ t → (IsForbidden (negsuc n) → ⊥) ⊎ ((IsForbidden (negsuc n) → ⊥) → ⊥)
-negative_or_not n true e = inr (λ allowed. allowed (inr (ap negsuc (same_number n 2047 e))))
-negative_or_not n false e = inl (negative_allowed n (other_number n 2047 e))
+negative_or_not : (n : ℕ) → Decided (n ≡ 2047) → Decided (IsForbidden (negsuc n) → ⊥)
+negative_or_not n (inl e) = inr (λ allowed. allowed (inr (ap negsuc e)))
+negative_or_not n (inr e) = inl (negative_allowed n e)
 
 allowed_or_not : (level : ℤ) → (IsForbidden level → ⊥) ⊎ ((IsForbidden level → ⊥) → ⊥)
 allowed_or_not (pos zero) = inr (λ allowed. allowed (inl refl))
 allowed_or_not (pos (suc n)) = inl (some_allowed n)
-allowed_or_not (negsuc n) = negative_or_not n (eqb n 2047) refl
-
-below_or_not : (n bound : ℕ) → (n < bound) ⊎ (n < bound → ⊥)
-below_or_not n bound = go n bound (nat_lt n bound) refl
-  where
-    go : (n bound : ℕ) (t : Bool) → nat_lt n bound ≡ t → (n < bound) ⊎ (n < bound → ⊥)
-    go n bound true e = inl (grind (arith, nat_tests))
-    go n bound false e = inr (λ h. grind (arith, nat_tests))
+allowed_or_not (negsuc n) = negative_or_not n (equal_or_not n 2047)
 
 within_or_not : (level : ℤ) (bound : ℕ) → ((pos 0 ≤ℤ level) × (level <ℤ pos bound)) ⊎ ((pos 0 ≤ℤ level) × (level <ℤ pos bound) → ⊥)
 within_or_not (pos n) bound = go n bound (below_or_not n bound)

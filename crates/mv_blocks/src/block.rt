@@ -218,7 +218,7 @@ fn read_intra(
 
 /// Reads a block: its 64 levels, in raster order. In an intra block `dc` is the predictor of its DC level, and becomes
 /// this level; else it stays. A DC level that doesn't fit the precision, a forbidden level of an escape and a
-/// coefficient behind the last place are `BadBlock`; bits that begin no code are `BadCode`. After a refusal `dc` and
+/// coefficient behind the last place are `BadBlock`; bits that no code begins are `BadCode`. After a refusal `dc` and
 /// the levels are anything. (H.262, 6.2.6 and 7.2.)
 pub fn read_block(
     w: &mut BitWindow<'_>,
