@@ -26,7 +26,10 @@ pub use plain::{plain_forward, plain_inverse};
 pub fn inverse(c: &[i16; 64]) -> [i16; 64]
     ensures { (y x : ℕ) → y < 8 → x < 8 → entry result y x ≡ inverse_at (entry c.now) y x }
 {
-    let sums = inverse_of_rows(&inverse_of_rows(&widened(c)));
+    let mut sums = widened(c);
+    let mut turned = [0; 64];
+    inverse_of_rows(&sums, &mut turned);
+    inverse_of_rows(&turned, &mut sums);
     let mut samples = [0; 64];
     for place in 0..64 {
         samples[place] = saturated_sample(rounded_sum(sums[place]));
@@ -40,7 +43,10 @@ pub fn forward(s: &[i16; 64]) -> [i16; 64]
     requires { IsWithin 255 (entry s.now) }
     ensures { (v u : ℕ) → v < 8 → u < 8 → entry result v u ≡ forward_at (entry s.now) v u }
 {
-    let sums = forward_of_rows(&forward_of_rows(&widened(s)));
+    let mut sums = widened(s);
+    let mut turned = [0; 64];
+    forward_of_rows(&sums, &mut turned);
+    forward_of_rows(&turned, &mut sums);
     let mut coefficients = [0; 64];
     for place in 0..64 {
         coefficients[place] = narrowed(rounded_sum(sums[place]));

@@ -38,32 +38,28 @@ fn row_of(block: &[i64; 64], row: usize) -> [i64; 8]
     line
 }
 
-/// The inverse of each row, as a column.
-pub fn inverse_of_rows(block: &[i64; 64]) -> [i64; 64]
+/// Puts the inverse of each row into a column.
+pub fn inverse_of_rows(block: &[i64; 64], turned: &mut [i64; 64])
     requires { IsWithin (2 ^ 30) (entry block.now) }
-    ensures { (x v : ℕ) → x < 8 → v < 8 → entry result x v ≡ inverse_line (entry block.now v) x }
+    ensures { (x v : ℕ) → x < 8 → v < 8 → entry turned.new x v ≡ inverse_line (entry block.now v) x }
 {
-    let mut turned = [0; 64];
     for row in 0..8 {
         let line = inverse_of_line(&row_of(block, row));
         for k in 0..8 {
             turned[8 * k + row] = line[k];
         }
     }
-    turned
 }
 
-/// The forward transform of each row, as a column.
-pub fn forward_of_rows(block: &[i64; 64]) -> [i64; 64]
+/// Puts the forward transform of each row into a column.
+pub fn forward_of_rows(block: &[i64; 64], turned: &mut [i64; 64])
     requires { IsWithin (2 ^ 30) (entry block.now) }
-    ensures { (u y : ℕ) → u < 8 → y < 8 → entry result u y ≡ forward_line (entry block.now y) u }
+    ensures { (u y : ℕ) → u < 8 → y < 8 → entry turned.new u y ≡ forward_line (entry block.now y) u }
 {
-    let mut turned = [0; 64];
     for row in 0..8 {
         let line = forward_of_line(&row_of(block, row));
         for k in 0..8 {
             turned[8 * k + row] = line[k];
         }
     }
-    turned
 }

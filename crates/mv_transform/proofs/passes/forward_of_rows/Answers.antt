@@ -7,7 +7,7 @@ use Rattle.mv_transform.proofs.LineLemmas.{forward_line_same}
 use Rattle.mv_transform.proofs.passes.forward_of_rows.Goals as goal
 
 pub loop-row-init : goal.loop-row-init
-loop-row-init c = turned_none (λ k i. forward_line (entry c.args.block.now i) k) _ refl
+loop-row-init c = turned_none (λ k i. forward_line (entry c.args.block.now i) k) _ c.told-turned
 
 pub forward_of_line-line-requires : goal.forward_of_line-line-requires
 forward_of_line-line-requires c = λ k h. let e = c.row_of.ensures k h in let b = c.requires c.loop-row.row k c.loop-row-test.true h in omega (arith, ap unsigned_abs e, b)

@@ -7,7 +7,7 @@ use Rattle.mv_transform.proofs.LineLemmas.{inverse_line_same}
 use Rattle.mv_transform.proofs.passes.inverse_of_rows.Goals as goal
 
 pub loop-row-init : goal.loop-row-init
-loop-row-init c = turned_none (λ k i. inverse_line (entry c.args.block.now i) k) _ refl
+loop-row-init c = turned_none (λ k i. inverse_line (entry c.args.block.now i) k) _ c.told-turned
 
 pub inverse_of_line-line-requires : goal.inverse_of_line-line-requires
 inverse_of_line-line-requires c = λ k h. let e = c.row_of.ensures k h in let b = c.requires c.loop-row.row k c.loop-row-test.true h in omega (arith, ap unsigned_abs e, b)
