@@ -1,0 +1,3 @@
+pub mod PredictorLaws
+pub mod VectorLaws
+pub mod VectorExamples
