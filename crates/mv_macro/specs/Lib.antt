@@ -1,0 +1,4 @@
+pub mod Past
+pub mod Macroblocks
+pub mod Answers
+pub mod Parts
