@@ -1,0 +1,27 @@
+use Rattle.mv_bits.specs.Elements.{cut}
+use Rattle.mv_slices.proofs.PictureLemmas.{covered_refused, covered_more, covered_all, picture_coded, picture_refused}
+use Rattle.mv_slices.proofs.KindLemmas.{slices_intra, slices_scales}
+use Rattle.mv_slices.proofs.slices.read_slices.Goals as goal
+
+pub returns-in-Err-clause-reads : goal.returns-in-Err-clause-reads
+returns-in-Err-clause-reads c = picture_refused c.args.head.now c.args.slices.now c.requires.elements c.in-Err.why (covered_refused c.slices.invariant.0 c.in-Some.element.now (cut c.in-Some.others.now).elements c.in-Some.ensures.0 c.in-Err.why c.in-Err.ensures.reads)
+
+pub slices-preserved : goal.slices-preserved
+slices-preserved c = (
+  covered_more c.slices.invariant.0 c.in-Some.element.now (cut c.in-Some.others.now).elements c.in-Some.ensures.0 c.in-Ok.now c.read_slice.new.d c.read_slice.new.l
+      c.in-Ok.ensures.same_decisions c.in-Ok.ensures.same_levels c.in-Ok.ensures.reads,
+  c.in-Some.ensures.1,
+)
+
+pub returns-then-covered-d-clause-reads : goal.returns-then-covered-d-clause-reads
+returns-then-covered-d-clause-reads c = picture_coded c.args.head.now c.args.slices.now c.requires.elements _ _ (covered_all c.slices.invariant.0 c.in_default.ensures c.requires.decisions c.requires.levels c.if-covered-d.true)
+
+pub returns-then-covered-d-clause-intra : goal.returns-then-covered-d-clause-intra
+returns-then-covered-d-clause-intra c =
+    slices_intra c.args.head.now c.requires.pic c.args.slices.now c.slices.d c.slices.l
+    (picture_coded c.args.head.now c.args.slices.now c.requires.elements _ _ (covered_all c.slices.invariant.0 c.in_default.ensures c.requires.decisions c.requires.levels c.if-covered-d.true))
+
+pub returns-then-covered-d-clause-scales : goal.returns-then-covered-d-clause-scales
+returns-then-covered-d-clause-scales c =
+    slices_scales c.args.head.now c.requires.pic c.args.slices.now c.slices.d c.slices.l
+    (picture_coded c.args.head.now c.args.slices.now c.requires.elements _ _ (covered_all c.slices.invariant.0 c.in_default.ensures c.requires.decisions c.requires.levels c.if-covered-d.true))

@@ -1,0 +1,19 @@
+//! The slices of a picture.
+//!
+//! [`read_slices`] reads the bytes of a picture behind its header. Its promise: it answers Ok exactly where the bytes
+//! are slices that cover the picture, in order and without a gap, with the decisions and levels that they code, and else
+//! the first refusal in them. What this says stands in `specs/Slices.antt`, of whole lists of macroblocks, and the
+//! syntax in front of a macroblock in `specs/Increments.antt`.
+#![tactic(auto)]
+
+mod header;
+mod increment;
+mod laws;
+mod slice;
+mod slices;
+
+pub use laws::slices_law;
+pub use slices::read_slices;
+
+#[cfg(test)]
+mod tests;

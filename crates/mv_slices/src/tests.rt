@@ -1,0 +1,235 @@
+//! Slices of a picture of 6x4 macroblocks, written as their bits.
+
+use crate::read_slices;
+use mv_bits::has_no_front;
+use mv_terms::{Decision, Head, MacroLevels, Matrices, PicType, Vector, Why};
+use std::alloc::Global;
+use std::process::Abort;
+use std::test::Fail;
+
+const HEAD: Head = Head {
+    pic: PicType::I,
+    temporal: 0,
+    f_code: [[15; 2]; 2],
+    dc_precision: 0,
+    frame_only: true,
+    concealment: false,
+    non_linear: false,
+    table_15: false,
+    alternate: false,
+    mb_wide: 6,
+    mb_high: 4,
+    matrices: Matrices {
+        intra: [16; 64],
+        non_intra: [16; 64],
+    },
+};
+
+const GREY_DECISION: Decision = Decision {
+    slice_start: false,
+    skipped: false,
+    quant: false,
+    intra: true,
+    forward: false,
+    backward: false,
+    field_dct: false,
+    field_motion: false,
+    scale: 8,
+    selects: [[false; 2]; 2],
+    vectors: [[Vector { x: 0, y: 0 }; 2]; 2],
+    head_scale: 0,
+};
+
+/// What the lists hold before the slices are read.
+const OTHER: Decision = Decision {
+    skipped: true,
+    vectors: [[Vector { x: 1, y: 1 }; 2]; 2],
+    ..GREY_DECISION
+};
+
+/// The bits of a letter in the text of a slice: of the header, of an escape, of macroblocks, or one bit.
+fn bits(letter: u8) -> &'static str {
+    match letter {
+        b'0' => "0",
+        b'1' => "1",
+        // a scale code 8 without extra information, and a scale code 3 with two bytes of it
+        b'H' => "01000 0",
+        b'X' => "00011 1 10101010 1 11111111 0",
+        b'E' => "0000 0001 000",
+        // a macroblock whose DC levels are their predictors, with an increment of 1 and of 2
+        b'g' => "1 1 10010 10010 10010 10010 0010 0010",
+        b's' => "011 1 10010 10010 10010 10010 0010 0010",
+        // the same with an increment of 3
+        b't' => "010 1 10010 10010 10010 10010 0010 0010",
+        // the first DC levels of luma and of Cb are 1 more than their predictors
+        b'b' => "1 1 00110 10010 10010 10010 01110 0010",
+        _ => "",
+    }
+}
+
+/// Appends the slice of a row, with zeros up to the next byte.
+fn push_slice(slices: &mut Vec<u8>, row: u8, text: &str) -> Result<(), Fail> {
+    slices.extend_from_slice(&[0, 0, 1, row])?;
+    let mut byte = 0u8;
+    let mut place = 0x80u8;
+    for letter in text.bytes() {
+        for bit in bits(letter).bytes().filter(|c| *c != b' ') {
+            if bit == b'1' {
+                byte |= place;
+            }
+            place >>= 1;
+            if place == 0 {
+                slices.push(byte)?;
+                byte = 0;
+                place = 0x80;
+            }
+        }
+    }
+    if place != 0x80 {
+        slices.push(byte)?;
+    }
+    Ok(())
+}
+
+/// A row of grey macroblocks.
+const GREY: &str = "Hgggggg";
+
+/// The slices of these rows and letters.
+fn slices_of(alloc: Global, rows: &[(u8, &str)]) -> Result<Vec<u8>, Fail> {
+    let mut slices = Vec::new(alloc);
+    for (row, text) in rows {
+        push_slice(&mut slices, *row, text)?;
+    }
+    Ok(slices)
+}
+
+#[derive(Clone, Copy)]
+struct Outcome {
+    answer: Result<(), Why>,
+    decisions: [Decision; 24],
+    levels: [MacroLevels; 24],
+}
+
+fn read(rt: &impl Abort, slices: &[u8]) -> Outcome {
+    assert!(rt; has_no_front(slices));
+    let mut decisions = [OTHER; 24];
+    let mut levels = [MacroLevels {
+        blocks: [[7; 64]; 6],
+    }; 24];
+    let answer = read_slices(&HEAD, slices, &mut decisions, &mut levels);
+    Outcome {
+        answer,
+        decisions,
+        levels,
+    }
+}
+
+fn answer(rt: &impl Abort, alloc: Global, rows: &[(u8, &str)]) -> Result<Result<(), Why>, Fail> {
+    Ok(read(rt, &slices_of(alloc, rows)?).answer)
+}
+
+/// The answer where the slice of the first row has these letters and the others are grey.
+fn first_row(rt: &impl Abort, alloc: Global, text: &str) -> Result<Result<(), Why>, Fail> {
+    answer(rt, alloc, &[(1, text), (2, GREY), (3, GREY), (4, GREY)])
+}
+
+#[test]
+fn a_grey_picture_is_read(rt: HostRuntime) -> Result<(), Fail> {
+    let rows = [(1, GREY), (2, GREY), (3, GREY), (4, GREY)];
+    let outcome = read(&rt, &slices_of(rt.alloc(), &rows)?);
+    assert_eq!(rt; outcome.answer, Ok(()));
+    let mut grey = [0; 64];
+    grey[0] = 128;
+    for (at, (d, l)) in outcome.decisions.iter().zip(&outcome.levels).enumerate() {
+        let slice_start = at % 6 == 0;
+        let wanted = Decision {
+            slice_start,
+            head_scale: if slice_start { 8 } else { 0 },
+            ..GREY_DECISION
+        };
+        assert_eq!(rt; *d, wanted);
+        assert_eq!(rt; l.blocks, [grey; 6]);
+    }
+    Ok(())
+}
+
+#[test]
+fn predictors_and_scale_begin_anew_at_each_slice_of_a_row(rt: HostRuntime) -> Result<(), Fail> {
+    let rows = [(1, "Hbg"), (1, "Xtbgg"), (2, GREY), (3, GREY), (4, GREY)];
+    let outcome = read(&rt, &slices_of(rt.alloc(), &rows)?);
+    assert_eq!(rt; outcome.answer, Ok(()));
+    // the DC levels of Y3 and of Cb, the scale code and that of the header
+    let wanted = [
+        (129, 129, 8, 8),
+        (129, 129, 8, 0),
+        (128, 128, 3, 3),
+        (129, 129, 3, 0),
+        (129, 129, 3, 0),
+        (129, 129, 3, 0),
+        (128, 128, 8, 8),
+    ];
+    for (at, (y, cb, scale, head_scale)) in wanted.iter().enumerate() {
+        assert_eq!(rt; outcome.levels[at].blocks[3][0], *y);
+        assert_eq!(rt; outcome.levels[at].blocks[4][0], *cb);
+        assert_eq!(rt; outcome.decisions[at].scale, *scale);
+        assert_eq!(rt; outcome.decisions[at].head_scale, *head_scale);
+    }
+    Ok(())
+}
+
+#[test]
+fn slices_cover_the_picture_in_order(rt: HostRuntime) -> Result<(), Fail> {
+    let alloc = rt.alloc();
+    let bad = Err(Why::BadSlice);
+    let [first, second, third, fourth] = [(1, GREY), (2, GREY), (3, GREY), (4, GREY)];
+    assert_eq!(rt; answer(&rt, alloc, &[])?, bad);
+    assert_eq!(rt; answer(&rt, alloc, &[first, second, third])?, bad);
+    assert_eq!(rt; answer(&rt, alloc, &[first, third, second, fourth])?, bad);
+    assert_eq!(rt;
+        answer(&rt, alloc, &[first, second, third, fourth, fourth])?,
+        bad
+    );
+    assert_eq!(rt;
+        answer(&rt, alloc, &[first, second, third, fourth, (5, GREY)])?,
+        bad
+    );
+    assert_eq!(rt; first_row(&rt, alloc, "Hgg")?, bad);
+    // a scale code 0
+    assert_eq!(rt; first_row(&rt, alloc, "000000gggggg")?, bad);
+    Ok(())
+}
+
+#[test]
+fn increments_lead_to_the_next_macroblock_of_the_row(rt: HostRuntime) -> Result<(), Fail> {
+    let alloc = rt.alloc();
+    let cases = [
+        // the first one leads elsewhere, or is none
+        ("Hs", Why::BadSlice),
+        ("HEg", Why::BadSlice),
+        ("HE000000001", Why::BadCode),
+        // a later one jumps over a macroblock, leads past the row, or is none
+        ("Hgsgggg", Why::BadMacro),
+        ("HgEggggg", Why::BadMacro),
+        ("Hggggggg", Why::BadMacro),
+        ("Hg000000001", Why::BadCode),
+    ];
+    for (text, why) in cases {
+        assert_eq!(rt; first_row(&rt, alloc, text)?, Err(why));
+    }
+    Ok(())
+}
+
+#[test]
+fn a_slice_ends_before_zeros_alone(rt: HostRuntime) -> Result<(), Fail> {
+    let cases = [
+        ("Hgggggg", Ok(())),
+        ("Hgggggg000000000000000000000000000000000000", Ok(())),
+        ("Hgggggg000000000000000000000001", Err(Why::BadSlice)),
+        // 22 zeros don't end it
+        ("Hgggggg00000000000000000000001", Err(Why::BadCode)),
+    ];
+    for (text, wanted) in cases {
+        assert_eq!(rt; first_row(&rt, rt.alloc(), text)?, wanted);
+    }
+    Ok(())
+}
