@@ -1,13 +1,5 @@
-mod Powers
-mod LookUp
-mod Columns
-mod SliceLemmas
-mod RowLemmas
-mod PairLemmas
-mod HeadLemmas
-mod PictureLemmas
 mod Sends
-mod BeginLemmas
-mod StreamLemmas
-mod OutcomeLemmas
-mod DefinedEnds
+mod Growth
+mod OutcomeLaws
+mod Exits
+mod Turns

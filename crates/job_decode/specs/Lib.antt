@@ -1,4 +1,3 @@
-pub mod Early
-pub mod Pictures
-pub mod Reads
+pub mod Units
 pub mod Stream
+pub mod Steps

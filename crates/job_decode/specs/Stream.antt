@@ -1,106 +1,76 @@
 -- What `decode` answers and writes for a stream.
-use Rattle.std.specs.Prelude.{ℕ, zero, suc, ◌==◌, nat_lt, nat_le, Bool, true, false, not, ◌&&◌, if◌then◌else◌, List, [], ◌∷◌, length, drop, take, reverse, slice_index, Result, Ok, Err}
-use Rattle.std.specs.List.{prefix_len}
+use Rattle.std.specs.Prelude.{◌≡◌, ℕ, nat_lt, nat_le, Bool, true, false, if◌then◌else◌, List, [], ◌∷◌, length, map, take, Option, None, Some}
 use Rattle.mv_ends.specs.Ends.{Outcome}
+use Rattle.mv_ends.specs.Moves.{AppendsPart}
 use Rattle.mv_terms.specs.declared.status.Why.{Why}
-use Rattle.mv_terms.specs.declared.status.Why.TheVariants.{NoStart, TooLong, NotBuilt}
+use Rattle.mv_terms.specs.declared.status.Why.TheVariants.{TooLong}
 use Rattle.mv_terms.specs.declared.status.Status.{Status}
 use Rattle.mv_terms.specs.declared.status.Status.TheVariants as status
-use Rattle.mv_terms.specs.declared.head.Context.{Context}
-use Rattle.mv_bits.specs.Elements.{cut, is_start}
-use Rattle.mv_recon.specs.Pictures.{CodedPicture}
+use Rattle.mv_units.specs.Units.{Fed, whole_stream, units_left, units_of}
 use Rattle.cert_picture.specs.FrameFileOf.{frame_file_of}
-use Rattle.mv_heads.specs.Parts.{◌>>=◌}
-use Rattle.job_decode.specs.Pictures.{early_picture, early_sequence}
+use Rattle.job_decode.specs.Units.{Decoded, Pictures, DecodeTo}
 
--- the pictures in front of what isn't decoded so far, the latest first, and whether all is decoded
-pub record Decoded : Type 0 where
-  pub pictures : List CodedPicture
-  pub whole : Bool
+-- the pictures of a stream in front of the first unit that is refused, by cutting or by what it is
+abbrev pub HasPictures : List ℕ → Pictures → Type 0
+HasPictures bytes pictures = DecodeTo None (units_of bytes).units (units_of bytes).refusal pictures
 
-abbrev pub is_empty : {A : Type 0} → List A → Bool
-is_empty [] = true
-is_empty (x ∷ xs) = false
+-- the frame file of pictures, with the header line of the first one's sequence; nothing where there is none
+abbrev pub frames_of : List Decoded → List ℕ
+frames_of [] = []
+frames_of (first ∷ others) = frame_file_of first.context (map (λ d. d.picture) (first ∷ others))
 
-abbrev pub stopped : List CodedPicture → Decoded
-stopped past = record { pictures = past; whole = false }
+-- done, or the number of the refused unit and why
+abbrev pub status_by : Option Why → ℕ → Status
+status_by None count = status.Done
+status_by (Some why) count = status.Unit count why
 
-abbrev pub behind : Result (CodedPicture × List (List ℕ)) Why → List CodedPicture → (List CodedPicture → List (List ℕ) → Decoded) → Decoded
-behind (Ok x) past onward = onward (x.0 ∷ past) x.1
-behind (Err why) past onward = stopped past
+abbrev pub status_of : Pictures → Status
+status_of pictures = status_by pictures.refusal (length pictures.decoded)
 
--- The pictures of these elements behind these ones, the latest first. The number is above theirs.
-unfoldable pub pictures_from : ℕ → Context → List CodedPicture → List (List ℕ) → Decoded
-pictures_from zero context past elements = stopped past
-pictures_from (suc n) context past [] = record { pictures = past; whole = not (is_empty past) }
-pictures_from (suc n) context past (element ∷ elements) =
-    behind (early_picture context (element ∷ elements)) past (λ pictures others. pictures_from n context pictures others)
+-- a stream of which more may come
+abbrev pub open_stream : List ℕ → Fed
+open_stream bytes = record (whole_stream bytes) { closed = false }
 
--- a sequence, and the pictures of the bytes behind its headers, of which there are fewer than bytes
-abbrev pub pictures_of : ℕ → Context → List (List ℕ) → Result (Context × Decoded) Why
-pictures_of n context elements = Ok (context, pictures_from n context [] elements)
+-- how many units are whole within the first n bytes of a stream: those whose end they show, and all units where they are
+-- all bytes
+abbrev pub units_within : List ℕ → ℕ → ℕ
+units_within bytes n =
+    if nat_le (length bytes) n then length (units_of bytes).units else length (units_left (open_stream (take n bytes))).units
 
--- the sequence that a stream begins with, and its pictures; no byte stands before its first element
-unfoldable pub decoded_stream : List ℕ → Result (Context × Decoded) Why
-decoded_stream bytes =
-    if is_start bytes
-    then (do
-      sequence ← early_sequence (cut bytes).elements
-      pictures_of (suc (length bytes)) sequence.0 sequence.1)
-    else Err NotBuilt
-
--- how many zero bytes stand in front
-abbrev pub leading_zeros : List ℕ → ℕ
-leading_zeros bytes = prefix_len (λ b. b == 0) bytes
-
--- a start code, with any zero bytes before it
-abbrev pub begins_stream : List ℕ → Bool
-begins_stream bytes = nat_le 2 (leading_zeros bytes) && slice_index bytes (leading_zeros bytes) == 1
+-- what is answered and written for a stream with these pictures
+abbrev pub outcome_of : List ℕ → Pictures → Outcome Status
+outcome_of bytes pictures = record {
+  answer = status_of pictures;
+  output = frames_of pictures.decoded;
+  at_open = λ n. [];
+  given = λ n. frames_of (take (units_within bytes n) pictures.decoded);
+}
 
 -- streams of more bytes aren't decoded so far
 abbrev pub limit : ℕ
 limit = 16777216
 
--- the frame file of pictures, the latest first; nothing where there is none
-abbrev pub frames_of : Context → List CodedPicture → List ℕ
-frames_of context [] = []
-frames_of context (last ∷ past) = frame_file_of context (reverse (last ∷ past))
+abbrev pub too_long : Outcome Status
+too_long = record { answer = status.Unit 0 TooLong; output = []; at_open = λ n. []; given = λ n. [] }
 
-abbrev pub status_of : Result (Context × Decoded) Why → Status
-status_of (Ok x) = if x.1.whole then status.Done else status.Unit (length x.1.pictures) NotBuilt
-status_of (Err why) = status.Unit 0 NotBuilt
+-- What `decode` answers for a stream, and what it writes: the frame file of the pictures in front of the first unit that
+-- is refused.
+abbrev pub IsOutcomeBy : Bool → List ℕ → Outcome Status → Type 0
+IsOutcomeBy true bytes outcome = outcome ≡ too_long
+IsOutcomeBy false bytes outcome = (pictures : Pictures) × HasPictures bytes pictures × (outcome ≡ outcome_of bytes pictures)
 
-abbrev pub output_of : Result (Context × Decoded) Why → List ℕ
-output_of (Ok x) = frames_of x.0 x.1.pictures
-output_of (Err why) = []
+abbrev pub IsOutcome : List ℕ → Outcome Status → Type 0
+IsOutcome bytes outcome = IsOutcomeBy (nat_lt limit (length bytes)) bytes outcome
 
--- The frames of the pictures whose end the bytes show: of a part of a stream these are all but the last one, where the
--- part is decoded to its end.
-abbrev pub shown_of : Result (Context × Decoded) Why → List ℕ
-shown_of (Ok x) = frames_of x.0 (if x.1.whole then drop 1 x.1.pictures else x.1.pictures)
-shown_of (Err why) = []
+-- Of an outcome of the stream no more is appended than what its units give that lie wholly within the first n bytes.
+abbrev pub AppendsGiven : List ℕ → ℕ → Option (List ℕ) → Option (List ℕ) → Type 0
+AppendsGiven bytes n old new = (outcome : Outcome Status) × IsOutcome bytes outcome × AppendsPart old new (outcome.given n)
 
--- what the pictures give that lie wholly within the first n bytes
-unfoldable pub given : List ℕ → ℕ → List ℕ
-given bytes n =
-    if nat_le (length bytes) n then output_of (decoded_stream bytes) else shown_of (decoded_stream (take n bytes))
+-- Each stream has one outcome, and no other.
+pub record HasOneOutcome (bytes : List ℕ) : Type 0 where
+  pub outcome : Outcome Status
+  pub is : IsOutcome bytes outcome
+  pub only : (other : Outcome Status) → IsOutcome bytes other → other ≡ outcome
 
-abbrev pub refused : Why → Outcome Status
-refused why = record { answer = status.Unit 0 why; output = []; at_open = λ n. []; given = λ n. [] }
-
--- what is answered and written for decoded pictures
-abbrev pub outcome_from : Result (Context × Decoded) Why → (ℕ → List ℕ) → Outcome Status
-outcome_from decoded given_by = record {
-  answer = status_of decoded;
-  output = output_of decoded;
-  at_open = λ n. [];
-  given = given_by;
-}
-
--- What `decode` answers for a stream, and what it writes: the frame file of the pictures in front of the first one that
--- isn't decoded so far.
-abbrev pub outcome_of : List ℕ → Outcome Status
-outcome_of bytes =
-    if nat_lt limit (length bytes) then refused TooLong
-    else if begins_stream bytes then outcome_from (decoded_stream bytes) (given bytes)
-    else refused NoStart
+abbrev pub EachHasOneOutcome : Type 0
+EachHasOneOutcome = (bytes : List ℕ) → HasOneOutcome bytes

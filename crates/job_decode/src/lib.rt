@@ -1,24 +1,24 @@
 //! The job of `decode`: from the bytes of a stream to the frame file that it decodes to.
 //!
-//! Its promise: `decode_job` ends as `outcome_of` in `specs/Stream.antt` defines for the bytes of the named input, in
-//! status and output, but for want of memory and counted faults of its endpoints. What of a stream is decoded so far
-//! stands in `specs/Pictures.antt` and `specs/Early.antt`, and what the readers of the code answer in `specs/Reads.antt`.
+//! Its promise: `decode_job` ends as `IsOutcome` in `specs/Stream.antt` defines for the bytes of the named input, in
+//! status and output, but for want of memory and counted faults of its endpoints; `outcome_law` says that each stream
+//! has one outcome. What the units of a stream decode to stands in `specs/Units.antt`, and what each step of the code
+//! answers in `specs/Steps.antt`.
 #![tactic(auto)]
 
-mod early;
 mod input;
-mod pictures;
-mod slices;
+mod store;
 mod stream;
+mod unit;
 
-ghost use Rattle.std.specs.Prelude.{◌≡◌, ◌≢◌};
+ghost use Rattle.std.specs.Prelude.{◌≡◌, ◌≢◌, ◌-◌, length};
 ghost use Rattle.std.specs.Option.{ForSome};
 ghost use Rattle.std.specs.Io.KnownBytes.{IsAtEnd};
 ghost use Rattle.mv_ends.specs.Causes.{Rose, NeverFall, Counts, FailedWrite};
-ghost use Rattle.mv_ends.specs.Ends.{Ends};
+ghost use Rattle.mv_ends.specs.Ends.{Ends, Outcome};
 ghost use Rattle.mv_ends.specs.Moves.{input_of};
 ghost use Rattle.y4m_frames.specs.Endings.{ending_of};
-ghost use Rattle.job_decode.specs.Stream.{outcome_of};
+ghost use Rattle.job_decode.specs.Stream.{AppendsGiven, EachHasOneOutcome, IsOutcome};
 
 use crate::input::{Unread, read_input};
 use crate::stream::decode_stream;
@@ -26,9 +26,11 @@ use mv_ends::{Shelf, Sink};
 use mv_terms::{Status, Why};
 use std::alloc::Global;
 
-/// Writes the frame file that the stream of this name decodes to, as far as it is decoded so far.
+/// Writes the frame file that the stream of this name decodes to: the frames of its pictures, up to the first unit that
+/// is refused.
 ///
-/// A stream has at most 16,777,216 bytes, and all of it is read before anything is written.
+/// Every stream of frame pictures that are I pictures without concealment vectors is decoded; a unit with another
+/// picture is `NotBuilt`. A stream has at most 16,777,216 bytes, and all of it is read before anything is written.
 pub fn decode_job<S: Shelf, O: Sink>(
     alloc: Global,
     name: &str,
@@ -37,8 +39,12 @@ pub fn decode_job<S: Shelf, O: Sink>(
 ) -> Status
     // Where the inputs are told, it ends as it is defined, but for want of memory and for the faults below.
     ensures ends { ForSome (S.named shelf.old)
-        (λ inputs. Ends (outcome_of (input_of inputs name.now)) (ending_of result) (O.written out.old) (O.written out.new)) }
+        (λ inputs. (outcome : Outcome Status) × IsOutcome (input_of inputs name.now) outcome × Ends outcome (ending_of result) (O.written out.old) (O.written out.new)) }
     ensures done { result ≡ Status.Done → IsAtEnd (S.rest shelf.new) }
+
+    // After a read fault no more stands on the output than what is due to the bytes that were taken.
+    ensures read_part { result ≡ Status.ReadFault → ForSome (S.named shelf.old) (λ inputs. ForSome (S.rest shelf.new)
+        (λ left. AppendsGiven (input_of inputs name.now) (length (input_of inputs name.now) - length left) (O.written out.old) (O.written out.new))) }
     ensures form { result ≢ Status.Words }
 
     // A fault of an endpoint is answered only where it was counted in this call, for this very name.
@@ -61,3 +67,8 @@ pub fn decode_job<S: Shelf, O: Sink>(
     };
     decode_stream(alloc, &bytes, out)
 }
+
+/// Each stream has one outcome.
+pub fn outcome_law()
+    ensures { EachHasOneOutcome }
+{}

@@ -3,4 +3,3 @@ pub mod Headers
 pub mod Parts
 pub mod Units
 pub mod Legal
-pub mod Marks

@@ -61,7 +61,7 @@ fn picture_type(kind: u32) -> Result<PicType, Why>
 }
 
 #[tactic(auto, unfolding(crate::specs::Headers::vector_field_bits))]
-pub(crate) fn vector_field_bits(kind: u32) -> u32
+fn vector_field_bits(kind: u32) -> u32
     ensures value { result ≡ vector_field_bits kind }
     ensures few { result ≤ 8 }
 {

@@ -1,6 +1,6 @@
 //! The program's top call: from words to a command over named inputs, its output and the line of its status.
 //!
-//! Its promise: `run` ends as `outcome` in `specs/Outcomes.antt` defines for the form of the words and the inputs, in
+//! Its promise: `run` ends as `IsOutcomeOf` in `specs/Outcomes.antt` defines for the form of the words and the inputs, in
 //! status and output, but for want of memory and counted faults of its endpoints. Which words have a form stands in
 //! `specs/Words.antt`, and what is said of a status in `specs/Says.antt`.
 #![tactic(auto)]
@@ -16,11 +16,11 @@ ghost use Rattle.std.specs.Prelude.{◌≡◌, ◌↔◌, None};
 ghost use Rattle.std.specs.Option.{ForSome};
 ghost use Rattle.std.specs.Io.KnownBytes.{Keeps, IsAtEnd};
 ghost use Rattle.mv_ends.specs.Causes.{Rose, NeverFall, Counts, FailedWrite};
-ghost use Rattle.mv_ends.specs.Ends.{Ends};
+ghost use Rattle.mv_ends.specs.Ends.{Ends, Outcome};
 ghost use Rattle.mv_terms.specs.Texts.{line_of};
 ghost use Rattle.y4m_frames.specs.Endings.{ending_of};
 ghost use Rattle.recoder_cli.specs.Words.{form_of, texts, name_in};
-ghost use Rattle.recoder_cli.specs.Outcomes.{outcome};
+ghost use Rattle.recoder_cli.specs.Outcomes.{AppendsGivenOf, IsOutcomeOf, taken_of};
 ghost use Rattle.recoder_cli.specs.Says.{Says};
 
 pub use clean::run_clean;
@@ -42,8 +42,12 @@ pub fn run<S: Shelf, O: Sink, M: Sink>(
 ) -> Status
     // Where the inputs are told, a command ends as it is defined, but for want of memory and for the faults below.
     ensures ends { ForSome (form_of (texts words.now)) (λ form. ForSome (S.named shelf.old)
-        (λ inputs. Ends (outcome form inputs) (ending_of result) (O.written out.old) (O.written out.new))) }
+        (λ inputs. (outcome : Outcome Status) × IsOutcomeOf form inputs outcome × Ends outcome (ending_of result) (O.written out.old) (O.written out.new))) }
     ensures done { result ≡ Status.Done → IsAtEnd (S.rest shelf.new) }
+
+    // After a read fault no more stands on the output than what is due to the bytes that were taken.
+    ensures read_part { result ≡ Status.ReadFault → ForSome (form_of (texts words.now)) (λ form. ForSome (S.named shelf.old)
+        (λ inputs. ForSome (S.rest shelf.new) (λ left. AppendsGivenOf form inputs (taken_of form inputs left) (O.written out.old) (O.written out.new)))) }
 
     // The words alone decide whether they are of no form, and then nothing is written.
     ensures words { (result ≡ Status.Words) ↔ (form_of (texts words.now) ≡ None) }

@@ -12,6 +12,13 @@ const SEQUENCE: &[u8] = &[
     0x00, 0x00, 0x01, 0xB5, 0x14, 0x8A, 0x00, 0x01, 0x00, 0x00,
 ];
 
+// The same of a stream of 80x64 samples.
+#[rattlefmt::skip]
+const NARROWER: &[u8] = &[
+    0x00, 0x00, 0x01, 0xB3, 0x05, 0x00, 0x40, 0x13, 0xFF, 0xFF, 0xE3, 0x80,
+    0x00, 0x00, 0x01, 0xB5, 0x14, 0x8A, 0x00, 0x01, 0x00, 0x00,
+];
+
 // A group of pictures header.
 const GROUP: &[u8] = &[0x00, 0x00, 0x01, 0xB8, 0x00, 0x08, 0x00, 0x40];
 
@@ -26,6 +33,19 @@ const INTRA: &[u8] = &[
 const PREDICTED: &[u8] = &[
     0x00, 0x00, 0x01, 0x00, 0x00, 0x17, 0xFF, 0xF8,
     0x00, 0x00, 0x01, 0xB5, 0x8F, 0xFF, 0xF3, 0x41, 0x80,
+];
+
+// A P picture whose vectors may be read, and an I picture with concealment vectors.
+#[rattlefmt::skip]
+const LEGALLY_PREDICTED: &[u8] = &[
+    0x00, 0x00, 0x01, 0x00, 0x00, 0x17, 0xFF, 0xF8,
+    0x00, 0x00, 0x01, 0xB5, 0x81, 0x1F, 0xF3, 0x41, 0x80,
+];
+
+#[rattlefmt::skip]
+const CONCEALED: &[u8] = &[
+    0x00, 0x00, 0x01, 0x00, 0x00, 0x0F, 0xFF, 0xF8,
+    0x00, 0x00, 0x01, 0xB5, 0x81, 0x1F, 0xF3, 0x61, 0x80,
 ];
 
 // The four slices of a grey picture, one for each row of macroblocks, behind their start codes.
@@ -117,17 +137,113 @@ fn grey_pictures_decode_to_grey_frames(rt: HostRuntime) -> Result<(), Fail> {
 }
 
 #[test]
-fn a_picture_that_is_not_built_ends_the_frames(rt: HostRuntime) -> Result<(), Fail> {
+fn zero_bytes_and_an_end_code_may_stand_behind_the_slices(rt: HostRuntime) -> Result<(), Fail> {
     let alloc = rt.alloc();
-    let refused = Status::Unit(0, Why::NotBuilt);
-    let line = "unit 0: NotBuilt\n";
+    let tails: [&[u8]; 3] = [
+        &[0],
+        &[0x00, 0x00, 0x01, 0xB7],
+        &[0x00, 0x00, 0x01, 0xB7, 0x00, 0x00],
+    ];
+    for tail in tails {
+        let ended = stream(alloc, &[&[SEQUENCE, GROUP, INTRA]], tail)?;
+        ends(&rt, alloc, &ended, Status::Done, 1, "")?;
+    }
+    Ok(())
+}
+
+#[test]
+fn a_stream_that_is_cut_short_is_refused_where_it_ends(rt: HostRuntime) -> Result<(), Fail> {
+    let alloc = rt.alloc();
+    let whole = example(alloc)?;
+    let cases = [
+        (131, Why::BadSlice, "unit 0: BadSlice\n"),
+        (100, Why::BadCode, "unit 0: BadCode\n"),
+        (47, Why::BadOrder, "unit 0: BadOrder\n"),
+        (21, Why::BadOrder, "unit 0: BadOrder\n"),
+    ];
+    for (len, why, line) in cases {
+        let part = whole.get(..len).ok_or("a stream too short")?;
+        ends(&rt, alloc, part, Status::Unit(0, why), 0, line)?;
+    }
+    Ok(())
+}
+
+#[test]
+fn a_refused_header_names_its_unit(rt: HostRuntime) -> Result<(), Fail> {
+    let alloc = rt.alloc();
+    let (bad, line) = (Status::Unit(0, Why::BadHead), "unit 0: BadHead\n");
+    let unextended = stream(alloc, &[&[&SEQUENCE[..12], GROUP, INTRA]], &[])?;
+    ends(&rt, alloc, &unextended, bad, 0, line)?;
     let predicted = stream(alloc, &[&[SEQUENCE, GROUP, PREDICTED]], &[])?;
-    ends(&rt, alloc, &predicted, refused, 0, line)?;
-    let zero_behind = stream(alloc, &[&[SEQUENCE, GROUP, INTRA]], &[0])?;
-    ends(&rt, alloc, &zero_behind, refused, 0, line)?;
-    let second = stream(alloc, &[&[SEQUENCE, GROUP, INTRA], &[PREDICTED]], &[])?;
-    let refused = Status::Unit(1, Why::NotBuilt);
-    ends(&rt, alloc, &second, refused, 1, "unit 1: NotBuilt\n")
+    ends(&rt, alloc, &predicted, bad, 0, line)?;
+    let narrower = stream(
+        alloc,
+        &[&[SEQUENCE, GROUP, INTRA], &[NARROWER, GROUP, INTRA]],
+        &[],
+    )?;
+    let changed = Status::Unit(1, Why::SizeChanged);
+    ends(&rt, alloc, &narrower, changed, 1, "unit 1: SizeChanged\n")?;
+    let repeated = stream(
+        alloc,
+        &[&[SEQUENCE, GROUP, INTRA], &[SEQUENCE, GROUP, INTRA]],
+        &[],
+    )?;
+    ends(&rt, alloc, &repeated, Status::Done, 2, "")
+}
+
+#[test]
+fn pictures_of_other_kinds_are_not_built(rt: HostRuntime) -> Result<(), Fail> {
+    let alloc = rt.alloc();
+    for other in [LEGALLY_PREDICTED, CONCEALED] {
+        let second = stream(alloc, &[&[SEQUENCE, GROUP, INTRA], &[other]], &[])?;
+        let refused = Status::Unit(1, Why::NotBuilt);
+        ends(&rt, alloc, &second, refused, 1, "unit 1: NotBuilt\n")?;
+    }
+    Ok(())
+}
+
+#[test]
+fn the_first_refused_unit_ends_the_frames(rt: HostRuntime) -> Result<(), Fail> {
+    let alloc = rt.alloc();
+    let one = example(alloc)?;
+    let short = one.get(30..131).ok_or("a stream too short")?;
+    let second = stream(alloc, &[&[SEQUENCE, GROUP, INTRA]], short)?;
+    let (refused, line) = (Status::Unit(1, Why::BadSlice), "unit 1: BadSlice\n");
+    ends(&rt, alloc, &second, refused, 1, line)?;
+    let mut third = second.clone()?;
+    third.extend_from_slice(PREDICTED)?;
+    third.extend_from_slice(&[0x00, 0x00, 0x01, 0x01, 0x43])?;
+    ends(&rt, alloc, &third, refused, 1, line)?;
+    let mut behind = stream(
+        alloc,
+        &[&[SEQUENCE, GROUP, INTRA]],
+        &[0x00, 0x00, 0x01, 0xB7],
+    )?;
+    behind.extend_from_slice(&one)?;
+    let after = Status::Unit(1, Why::AfterEnd);
+    ends(&rt, alloc, &behind, after, 1, "unit 1: AfterEnd\n")
+}
+
+// A slice of scale code 8 and its first macroblock: increment 1, type Intra, a DC difference of 0, and behind it an escape
+// of run 0 with level 0, or with level -2048.
+#[rattlefmt::skip]
+const ESCAPES: [&[u8]; 2] = [
+    &[0x43, 0x80, 0x80, 0x00, 0x14],
+    &[0x43, 0x80, 0x81, 0x00, 0x14],
+];
+
+#[test]
+fn an_escape_has_no_forbidden_level(rt: HostRuntime) -> Result<(), Fail> {
+    let alloc = rt.alloc();
+    for slice in ESCAPES {
+        let mut bytes = Vec::new(alloc);
+        for part in [SEQUENCE, GROUP, INTRA, &[0x00, 0x00, 0x01, 0x01], slice] {
+            bytes.extend_from_slice(part)?;
+        }
+        let refused = Status::Unit(0, Why::BadBlock);
+        ends(&rt, alloc, &bytes, refused, 0, "unit 0: BadBlock\n")?;
+    }
+    Ok(())
 }
 
 #[test]

@@ -1,36 +1,92 @@
-use Rattle.std.proofs.Common.{◌<◌, suc, length, Err, refl, sym, ◌∙◌, arith, subst}
+use Rattle.std.proofs.Common.{◌≡◌, refl, sym, ap, ◌∙◌, arith, rules, subst, length, take, Option, Err}
+use Rattle.std.specs.Prelude.{◌==◌}
 use Rattle.mv_ends.specs.Ends.{defined}
-use Rattle.mv_terms.specs.declared.status.Why.TheVariants.{NotBuilt}
+use Rattle.mv_terms.specs.declared.status.Why.{Why}
 use Rattle.mv_terms.specs.declared.status.Status.TheVariants as status
-use Rattle.mv_bits.specs.Elements.{cut}
-use Rattle.y4m_frames.specs.Endings.{ending_of}
-use Rattle.job_decode.specs.declared.slices.Stop.{Stop}
-use Rattle.job_decode.specs.Pictures.{early_sequence}
-use Rattle.job_decode.specs.Reads.{StopsAt}
-use Rattle.job_decode.specs.Stream.{given, pictures_of}
-use Rattle.job_decode.proofs.StreamLemmas.{keeps_none}
-use Rattle.job_decode.proofs.OutcomeLemmas.{ends_along, not_at_once, no_sequence, sequence_first}
+use Rattle.mv_heads.specs.declared.units.Heads.{Heads}
+use Rattle.mv_units.specs.Units.{Fed, lent_unit}
+use Rattle.job_decode.specs.declared.unit.Stop.{Stop}
+use Rattle.job_decode.specs.Steps.{Decodes}
+use Rattle.mv_ends.proofs.Known.{Counts-trans}
+use Rattle.mv_slices.proofs.SliceLaws.{one_or_the_other}
+use Rattle.job_decode.proofs.Exits.{EndsBy, no_room}
+use Rattle.job_decode.proofs.Turns.{Turn, turn_starts, turn_feeds, turn_accepts, are_their_elements, done, cut_refused, unit_refused, out_of_memory, failed_write}
 use Rattle.job_decode.proofs.stream.decode_stream.Goals as goal
 
-pub returns-then-not-is_start-clause-ends : goal.returns-then-not-is_start-clause-ends
-returns-then-not-is_start-clause-ends g c =
-    ends_along c.args.bytes.now (Err NotBuilt) (defined (status.Unit 0 NotBuilt)) _ _ c.requires
-    (sym c.begins_stream.ensures ∙ c.if-not-begins_stream.false) (not_at_once c.args.bytes.now (sym c.is_start.ensures ∙ c.if-not-is_start.true))
-    (refl, keeps_none (g.O.Sink.written c.args.out.now))
+pub returns-in_default-clause-ends : goal.returns-in_default-clause-ends
+returns-in_default-clause-ends g c = no_room one_or_the_other c.args.bytes.now (g.O.Sink.written c.args.out.now)
 
-pub returns-in-Err-NotBuilt-clause-ends : goal.returns-in-Err-NotBuilt-clause-ends
-returns-in-Err-NotBuilt-clause-ends g c =
-    let refused = subst (λ (stop : Stop). StopsAt (early_sequence (cut c.args.bytes.now).elements) stop) c.in-Err-NotBuilt.field-0-is c.in-Err-NotBuilt.ensures in
-    ends_along c.args.bytes.now (Err refused.0) (defined (status.Unit 0 NotBuilt)) _ _ c.requires
-    (sym c.begins_stream.ensures ∙ c.if-not-begins_stream.false)
-    (no_sequence c.args.bytes.now (sym c.is_start.ensures ∙ c.if-not-is_start.false) refused)
-    (refl, keeps_none (g.O.Sink.written c.args.out.now))
+pub returns-in_default-with_size-clause-ends : goal.returns-in_default-with_size-clause-ends
+returns-in_default-with_size-clause-ends g c = no_room one_or_the_other c.args.bytes.now (g.O.Sink.written c.args.out.now)
 
-pub returns-clause-ends : goal.returns-clause-ends
-returns-clause-ends g c =
-    let fewer = c.in-Ok.ensures.behind.fewer in
-    let enough : length c.in-Ok.front.1.now < suc (length c.args.bytes.now) = omega (arith, fewer) in
-    ends_along c.args.bytes.now (pictures_of (suc (length c.args.bytes.now)) c.in-Ok.front.0 (cut c.in-Ok.front.1.now).elements) (ending_of c.decode_pictures.result) _ _ c.requires
-    (sym c.begins_stream.ensures ∙ c.if-not-begins_stream.false)
-    (sequence_first c.args.bytes.now c.in-Ok.front.1.now c.in-Ok.front.0 (sym c.is_start.ensures ∙ c.if-not-is_start.false) c.in-Ok.ensures.read)
-    (c.decode_pictures.ensures.ends (suc (length c.args.bytes.now)) (given c.args.bytes.now) enough)
+pub units-init : goal.units-init
+units-init g c = record {
+  turn = subst (λ (heads : Option Heads). Turn c.args.bytes.now 0 c.in-Ok.cutter heads 0 (g.O.Sink.written c.args.out.now) (g.O.Sink.written c.args.out.now)) (sym c.new-heads.ensures.value)
+      (turn_starts c.args.bytes.now c.in-Ok.cutter (g.O.Sink.written c.args.out.now) (ap (λ (fed : Fed). fed.closed) c.in-Ok.ensures.nothing) c.in-Ok.ensures.stands);
+  store = c.in-Ok-with_size.ensures.whole;
+  fits = let nothing : length c.in-Ok.cutter.bytes ≡ 0 = ap (λ (fed : Fed). length fed.bytes) c.in-Ok.ensures.nothing in omega (arith, nothing);
+  within = omega arith;
+  room = refl;
+  counts = search rules;
+}
+
+pub units-preserved-in-Ok-feed_next : goal.units-preserved-in-Ok-feed_next
+units-preserved-in-Ok-feed_next g c = record {
+  turn = turn_feeds c.args.bytes.now c.units.fed c.in-Ok-feed_next.now c.units.cutter c.feed_next.new.cutter c.units.heads c.units.count _ _ c.units.invariant.turn c.in-Ok-feed_next.ensures.fed;
+  store = c.units.invariant.store;
+  fits = let before = c.units.invariant.fits in let more = c.in-Ok-feed_next.ensures.fits in omega (arith, before, more);
+  within = (c.in-Ok-feed_next.ensures.fed c.units.invariant.turn.let_go c.units.invariant.turn.is_fed).within;
+  room = c.units.invariant.room;
+  counts = c.units.invariant.counts;
+}
+
+pub returns-in-Err-clause-ends : goal.returns-in-Err-clause-ends
+returns-in-Err-clause-ends g c =
+    out_of_memory one_or_the_other c.args.bytes.now c.units.fed c.units.cutter c.units.heads c.units.count _ _ _ c.requires c.units.invariant.turn refl
+
+pub decode_unit-requires-clause-elements : goal.decode_unit-requires-clause-elements
+decode_unit-requires-clause-elements g c =
+    are_their_elements c.unit-unit.result.slices.now
+    (c.unit-unit.ensures.slices (take c.units.fed c.args.bytes.now) c.units.invariant.turn.let_go c.units.invariant.turn.is_fed.stands)
+
+pub returns-in-Err-Refused-clause-ends : goal.returns-in-Err-Refused-clause-ends
+returns-in-Err-Refused-clause-ends g c =
+    let said = subst (λ (stop : Stop). Decodes c.units.heads (lent_unit c.unit-unit.result) c.decode_unit.new.heads (c.units.count == 0) (g.O.Sink.written c.units.out) (g.O.Sink.written c.decode_unit.new.out) (Err stop))
+    c.in-Err-Refused.field-0-is c.in-Err-Refused.ensures.decodes in
+    subst (λ (why : Why). EndsBy c.args.bytes.now (defined (status.Unit c.units.count why)) (g.O.Sink.written c.args.out.now) (g.O.Sink.written c.decode_unit.new.out)) (sym c.in-Err-Refused.why-is)
+    (unit_refused c.args.bytes.now c.units.fed c.units.cutter c.units.heads c.units.count (lent_unit c.unit-unit.result) _ _ _ c.in-Err-Refused.why c.requires c.units.invariant.turn
+    (sym c.in-Ready.ensures.value) c.unit-unit.ensures.parts said)
+
+pub returns-in-Err-NoMemory-clause-ends : goal.returns-in-Err-NoMemory-clause-ends
+returns-in-Err-NoMemory-clause-ends g c =
+    let said = subst (λ (stop : Stop). Decodes c.units.heads (lent_unit c.unit-unit.result) c.decode_unit.new.heads (c.units.count == 0) (g.O.Sink.written c.units.out) (g.O.Sink.written c.decode_unit.new.out) (Err stop))
+    c.in-Err-NoMemory.field-0-is c.in-Err-NoMemory.ensures.decodes in
+    out_of_memory one_or_the_other c.args.bytes.now c.units.fed c.units.cutter c.units.heads c.units.count _ _ _ c.requires c.units.invariant.turn said
+
+pub returns-in-Err-WriteFault-clause-ends : goal.returns-in-Err-WriteFault-clause-ends
+returns-in-Err-WriteFault-clause-ends g c =
+    let said = subst (λ (stop : Stop). Decodes c.units.heads (lent_unit c.unit-unit.result) c.decode_unit.new.heads (c.units.count == 0) (g.O.Sink.written c.units.out) (g.O.Sink.written c.decode_unit.new.out) (Err stop))
+    c.in-Err-WriteFault.field-0-is c.in-Err-WriteFault.ensures.decodes in
+    failed_write one_or_the_other c.args.bytes.now c.units.fed c.units.cutter c.units.heads c.decode_unit.new.heads c.units.count (lent_unit c.unit-unit.result) _ _ _ c.requires c.units.invariant.turn
+    (sym c.in-Ready.ensures.value) c.unit-unit.ensures.parts said
+
+pub units-preserved : goal.units-preserved
+units-preserved g c =
+    let w = c.in-Ok-decode_unit.ensures.decodes in
+    record {
+      turn = turn_accepts c.args.bytes.now c.units.fed c.units.cutter c.next.new.self c.units.heads c.decode_unit.new.heads c.units.count (lent_unit c.unit-unit.result) _ _ _ c.units.invariant.turn
+          (sym c.in-Ready.ensures.value) c.next.ensures.left c.unit-unit.ensures.parts w;
+      store = c.in-Ok-decode_unit.ensures.store;
+      fits = let before = c.units.invariant.fits in let shorter = c.next.ensures.shorter in omega (arith, before, shorter);
+      within = c.units.invariant.within;
+      room = c.in-Ok-decode_unit.ensures.same_room ∙ c.units.invariant.room;
+      counts = Counts-trans _ _ _ _ _ _ _ _ _ _ c.units.invariant.counts c.units.invariant.room c.in-Ok-decode_unit.ensures.count c.units.invariant.turn.decoded.written w.moves;
+    }
+
+pub returns-in-Refused-clause-ends : goal.returns-in-Refused-clause-ends
+returns-in-Refused-clause-ends g c =
+    cut_refused c.args.bytes.now c.units.fed c.units.cutter c.units.heads c.units.count _ _ c.in-Refused.why c.requires c.units.invariant.turn c.in-Refused.ensures.settles
+
+pub returns-in-Ended-clause-ends : goal.returns-in-Ended-clause-ends
+returns-in-Ended-clause-ends g c =
+    done c.args.bytes.now c.units.fed c.units.cutter c.units.heads c.units.count _ _ c.requires c.units.invariant.turn c.in-Ended.ensures.settles

@@ -1,13 +1,17 @@
 use Rattle.std.proofs.Common.{refl}
 use Rattle.mv_ends.specs.Clean.{inputs_in, taken_by, room_of, faults_of}
 use Rattle.mv_terms.specs.Texts.{line_of}
-use Rattle.recoder_cli.specs.Outcomes.{outcome}
 use Rattle.recoder_cli.proofs.CleanEnds.{clean_end, clean_line}
 use Rattle.recoder_cli.proofs.clean.run_clean.Goals as goal
 
 pub returns-clause-ends : goal.returns-clause-ends
-returns-clause-ends c form is = clean_end (outcome form (inputs_in c.args.shelf.now)) c.run.result (taken_by c.args.out.now) (taken_by c.run.new.out) (room_of c.args.out.now) (faults_of c.args.out.now) (faults_of c.run.new.out)
-    (λ e. c.run.ensures.open_fault e form is) (λ e. c.run.ensures.read_fault e form is) c.run.ensures.write_fault (c.requires form is) (c.run.ensures.ends form is (inputs_in c.args.shelf.now) refl)
+returns-clause-ends c form is =
+    let end = c.run.ensures.ends form is (inputs_in c.args.shelf.now) refl in (
+      end.0,
+      end.1,
+      clean_end end.0 c.run.result (taken_by c.args.out.now) (taken_by c.run.new.out) (room_of c.args.out.now) (faults_of c.args.out.now) (faults_of c.run.new.out)
+          (λ e. c.run.ensures.open_fault e form is) (λ e. c.run.ensures.read_fault e form is) c.run.ensures.write_fault (c.requires form is end.0 end.1) end.2,
+    )
 
 pub returns-clause-said : goal.returns-clause-said
 returns-clause-said c fits = clean_line (faults_of c.args.say.now) (faults_of c.run.new.say) (room_of c.args.say.now) (taken_by c.args.say.now) (taken_by c.run.new.say) (line_of c.run.result) fits c.run.ensures.said
