@@ -22,8 +22,8 @@ fn weight(u: usize, x: usize) -> i64 {
     i64::from(BY_FREQUENCY[u][x])
 }
 
-fn inverse_of_line(line: &[i64; 8]) -> [i64; 8] {
-    let term = |u: usize, x: usize| weight(u, x) * line[u];
+fn inverse_of_line(line: &[i16; 8]) -> [i32; 8] {
+    let term = |u: usize, x: usize| i32::from(BY_FREQUENCY[u][x]) * i32::from(line[u]);
     let mut sums = [0; 8];
     for x in 0..4 {
         let even = (term(0, x) + term(2, x)) + (term(4, x) + term(6, x));
@@ -46,12 +46,23 @@ fn forward_of_line(line: &[i64; 8]) -> [i64; 8] {
     sums
 }
 
-fn of_rows(block: &[i64; 64], of_line: impl Fn(&[i64; 8]) -> [i64; 8]) -> [i64; 64] {
+fn inverse_of_rows(block: &[i16; 64], turned: &mut [i32; 64]) {
+    for row in 0..8 {
+        let mut line = [0; 8];
+        line.copy_from_slice(&block[8 * row..8 * row + 8]);
+        let line = inverse_of_line(&line);
+        for k in 0..8 {
+            turned[8 * k + row] = line[k];
+        }
+    }
+}
+
+fn forward_of_rows(block: &[i64; 64]) -> [i64; 64] {
     let mut turned = [0; 64];
     for row in 0..8 {
         let mut line = [0; 8];
         line.copy_from_slice(&block[8 * row..8 * row + 8]);
-        let line = of_line(&line);
+        let line = forward_of_line(&line);
         for k in 0..8 {
             turned[8 * k + row] = line[k];
         }
@@ -71,17 +82,34 @@ fn rounded(sum: i64) -> i64 {
     (sum + 0x200_0000) >> 26
 }
 
+fn parts(sums: &[i32; 64], part: impl Fn(i32) -> i32) -> [i16; 64] {
+    let mut parts = [0; 64];
+    for k in 0..64 {
+        parts[k] = part(sums[k]) as i16;
+    }
+    parts
+}
+
+fn rounded_parts(high: i32, low: i32) -> i32 {
+    (high + ((low + 0x200_0000) >> 15)) >> 11
+}
+
 fn inverse(c: &[i16; 64]) -> [i16; 64] {
-    let sums = of_rows(&of_rows(&widened(c), inverse_of_line), inverse_of_line);
+    let mut turned = [0; 64];
+    let mut high = [0; 64];
+    let mut low = [0; 64];
+    inverse_of_rows(c, &mut turned);
+    inverse_of_rows(&parts(&turned, |sum| sum >> 15), &mut high);
+    inverse_of_rows(&parts(&turned, |sum| sum - 0x8000 * (sum >> 15)), &mut low);
     let mut samples = [0; 64];
     for k in 0..64 {
-        samples[k] = rounded(sums[k]).min(255).max(-256) as i16;
+        samples[k] = rounded_parts(high[k], low[k]).min(255).max(-256) as i16;
     }
     samples
 }
 
 fn forward(s: &[i16; 64]) -> [i16; 64] {
-    let sums = of_rows(&of_rows(&widened(s), forward_of_line), forward_of_line);
+    let sums = forward_of_rows(&forward_of_rows(&widened(s)));
     let mut coefficients = [0; 64];
     for k in 0..64 {
         coefficients[k] = rounded(sums[k]) as i16;

@@ -4,3 +4,4 @@ pub mod Basis
 pub mod Transform
 pub mod WeightedSum
 pub mod Lines
+pub mod Parts

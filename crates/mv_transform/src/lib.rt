@@ -12,11 +12,14 @@ ghost use Rattle.mv_transform.specs.Block.{entry, IsWithin};
 ghost use Rattle.mv_transform.specs.Transform.{inverse_at, forward_at, InverseIsSaturated, ForwardIsBounded, InverseOfSame, ForwardOfSame};
 
 mod double_sum;
-mod lines;
+mod forward_lines;
+mod inverse_lines;
+mod parts;
 mod passes;
 mod plain;
 
-use double_sum::{narrowed, rounded_sum, saturated_sample};
+use double_sum::{narrowed, rounded_sum};
+use parts::{high_parts, low_parts, rounded_parts, saturated_value};
 use passes::{forward_of_rows, inverse_of_rows, widened};
 pub use plain::{plain_forward, plain_inverse};
 
@@ -26,13 +29,15 @@ pub use plain::{plain_forward, plain_inverse};
 pub fn inverse(c: &[i16; 64]) -> [i16; 64]
     ensures { (y x : ℕ) → y < 8 → x < 8 → entry result y x ≡ inverse_at (entry c.now) y x }
 {
-    let mut sums = widened(c);
     let mut turned = [0; 64];
-    inverse_of_rows(&sums, &mut turned);
-    inverse_of_rows(&turned, &mut sums);
+    let mut high = [0; 64];
+    let mut low = [0; 64];
+    inverse_of_rows(c, &mut turned);
+    inverse_of_rows(&high_parts(&turned), &mut high);
+    inverse_of_rows(&low_parts(&turned), &mut low);
     let mut samples = [0; 64];
     for place in 0..64 {
-        samples[place] = saturated_sample(rounded_sum(sums[place]));
+        samples[place] = saturated_value(rounded_parts(high[place], low[place]));
     }
     samples
 }
