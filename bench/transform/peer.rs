@@ -46,28 +46,15 @@ fn forward_of_line(line: &[i64; 8]) -> [i64; 8] {
     sums
 }
 
-fn inverse_of_rows(block: &[i16; 64], turned: &mut [i32; 64]) {
+fn of_rows<A: Copy + Default, B: Copy>(block: &[A; 64], turned: &mut [B; 64], of_line: impl Fn(&[A; 8]) -> [B; 8]) {
     for row in 0..8 {
-        let mut line = [0; 8];
+        let mut line = [A::default(); 8];
         line.copy_from_slice(&block[8 * row..8 * row + 8]);
-        let line = inverse_of_line(&line);
+        let line = of_line(&line);
         for k in 0..8 {
             turned[8 * k + row] = line[k];
         }
     }
-}
-
-fn forward_of_rows(block: &[i64; 64]) -> [i64; 64] {
-    let mut turned = [0; 64];
-    for row in 0..8 {
-        let mut line = [0; 8];
-        line.copy_from_slice(&block[8 * row..8 * row + 8]);
-        let line = forward_of_line(&line);
-        for k in 0..8 {
-            turned[8 * k + row] = line[k];
-        }
-    }
-    turned
 }
 
 fn widened(block: &[i16; 64]) -> [i64; 64] {
@@ -98,9 +85,9 @@ fn inverse(c: &[i16; 64]) -> [i16; 64] {
     let mut turned = [0; 64];
     let mut high = [0; 64];
     let mut low = [0; 64];
-    inverse_of_rows(c, &mut turned);
-    inverse_of_rows(&parts(&turned, |sum| sum >> 15), &mut high);
-    inverse_of_rows(&parts(&turned, |sum| sum - 0x8000 * (sum >> 15)), &mut low);
+    of_rows(c, &mut turned, inverse_of_line);
+    of_rows(&parts(&turned, |sum| sum >> 15), &mut high, inverse_of_line);
+    of_rows(&parts(&turned, |sum| sum - 0x8000 * (sum >> 15)), &mut low, inverse_of_line);
     let mut samples = [0; 64];
     for k in 0..64 {
         samples[k] = rounded_parts(high[k], low[k]).min(255).max(-256) as i16;
@@ -109,7 +96,10 @@ fn inverse(c: &[i16; 64]) -> [i16; 64] {
 }
 
 fn forward(s: &[i16; 64]) -> [i16; 64] {
-    let sums = forward_of_rows(&forward_of_rows(&widened(s)));
+    let mut sums = widened(s);
+    let mut turned = [0; 64];
+    of_rows(&sums, &mut turned, forward_of_line);
+    of_rows(&turned, &mut sums, forward_of_line);
     let mut coefficients = [0; 64];
     for k in 0..64 {
         coefficients[k] = rounded(sums[k]) as i16;

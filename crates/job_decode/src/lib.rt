@@ -29,8 +29,8 @@ use std::alloc::Global;
 /// Writes the frame file that the stream of this name decodes to: the frames of its pictures, up to the first unit that
 /// is refused.
 ///
-/// Every stream of frame pictures that are I pictures without concealment vectors is decoded; a unit with another
-/// picture is `NotBuilt`. A stream has at most 16,777,216 bytes, and all of it is read before anything is written.
+/// I frame pictures without concealment vectors are decoded; a unit with another picture is `NotBuilt`. A stream has at
+/// most 16,777,216 bytes, a longer one is `TooLong`, and all of it is read before anything is written.
 pub fn decode_job<S: Shelf, O: Sink>(
     alloc: Global,
     name: &str,

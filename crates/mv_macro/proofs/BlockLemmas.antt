@@ -6,9 +6,9 @@ use Rattle.mv_terms.specs.declared.head.Head.{Head}
 use Rattle.mv_terms.specs.declared.macroblock.MacroLevels.{MacroLevels}
 use Rattle.mv_blocks.specs.declared.block.BlockCode.{BlockCode}
 use Rattle.mv_blocks.specs.Blocks.{Block, ReadsBlock, next_predictor}
-use Rattle.mv_macro.specs.Past.{dc_level}
+use Rattle.mv_macro.specs.Past.{last_dc_levels, dc_level}
 use Rattle.mv_macro.specs.Macroblocks.{IntraBlock, IntraBlocks, block_code, predictor_of, six}
-use Rattle.mv_macro.specs.Parts.{component, last_dc_levels, ReadsIntraBlock, ReadsIntraBlocks}
+use Rattle.mv_macro.specs.Parts.{component, ReadsIntraBlock, ReadsIntraBlocks}
 
 -- block i, of component c, with the predictor of that component
 module _ (head : Head) (i c : ℕ) (kind : BlockCode) (dc : List ℤ) (bits : List Bool) (ce : c ≡ component i) (ke : kind ≡ block_code head true (eqb c 0)) where

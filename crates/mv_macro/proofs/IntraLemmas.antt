@@ -15,9 +15,9 @@ use Rattle.mv_codes.specs.Types.{type_codes, type_i_codes}
 use Rattle.mv_codes.proofs.TableLaws.{Spells-test}
 use Rattle.mv_vectors.specs.Vectors.{Direction, undirected}
 use Rattle.mv_vectors.specs.Inside.{is_inside}
-use Rattle.mv_macro.specs.Past.{Given, Start, Coded, coded, after}
+use Rattle.mv_macro.specs.Past.{last_dc_levels, Given, Start, Coded, coded, after}
 use Rattle.mv_macro.specs.Macroblocks.{Macroblock, MotionType, ScaleCode, Marker, Pattern, Blocks, IntraBlocks, decided, sends_motion_type, sends_dct_type, has_concealment}
-use Rattle.mv_macro.specs.Parts.{last_dc_levels, behind_intra}
+use Rattle.mv_macro.specs.Parts.{behind_intra}
 use Rattle.mv_macro.specs.Answers.{ReadsMacro, StandsFor}
 use Rattle.mv_macro.proofs.MacroLemmas.{bad_scale, bad_blocks, whole}
 use Rattle.mv_macro.proofs.PastLaws.{given-grows}

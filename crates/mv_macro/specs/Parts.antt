@@ -5,7 +5,7 @@ use Rattle.mv_terms.specs.declared.head.Head.{Head}
 use Rattle.mv_terms.specs.declared.macroblock.Decision.{Decision}
 use Rattle.mv_terms.specs.declared.macroblock.MacroLevels.{MacroLevels}
 use Rattle.mv_vectors.specs.Vectors.{still}
-use Rattle.mv_macro.specs.Past.{Given, dc_level, block}
+use Rattle.mv_macro.specs.Past.{Given, dc_level, last_dc_levels}
 use Rattle.mv_macro.specs.Macroblocks.{IntraBlock, IntraBlocks, predictor_of}
 
 -- the component of block i: 0 for Y, 1 for Cb and 2 for Cr
@@ -20,10 +20,6 @@ ReadsIntraBlock head i dc bits next before blocks rest (Ok _) =
     × (next ≡ slice_set dc (component i) (dc_level levels))
     × (blocks ≡ slice_set before i levels)
 ReadsIntraBlock head i dc bits next before blocks rest (Err why) = IntraBlock head (component i == 0) (predictor_of dc (component i)) bits (Err why)
-
--- the DC levels of the last block of each component
-abbrev pub last_dc_levels : MacroLevels → List ℤ
-last_dc_levels l = dc_level (block l 3) ∷ dc_level (block l 4) ∷ dc_level (block l 5) ∷ []
 
 -- what reading the blocks of an intra macroblock leaves: their levels, and the predictors of the next DC levels
 abbrev pub ReadsIntraBlocks : Head → List ℤ → List Bool → List ℤ → MacroLevels → List Bool → Result (Unit {0}) Why → Type 0

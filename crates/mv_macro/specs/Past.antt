@@ -53,12 +53,13 @@ reset_level head = pos (2 ^ (7 + head.dc_precision))
 abbrev pub reset_levels : Head → List ℤ
 reset_levels head = reset_level head ∷ reset_level head ∷ reset_level head ∷ []
 
--- behind a macroblock: the DC levels of the last block of each component of an intra one (H.262, 7.2.1)
+-- the DC levels of the last block of each component
+abbrev pub last_dc_levels : MacroLevels → List ℤ
+last_dc_levels m = dc_level (block m 3) ∷ dc_level (block m 4) ∷ dc_level (block m 5) ∷ []
+
+-- behind a macroblock: those of an intra one (H.262, 7.2.1)
 abbrev pub dc_behind : Head → Coded → List ℤ
-dc_behind head m =
-    if m.decision.intra
-    then dc_level (block m.levels 3) ∷ dc_level (block m.levels 4) ∷ dc_level (block m.levels 5) ∷ []
-    else reset_levels head
+dc_behind head m = if m.decision.intra then last_dc_levels m.levels else reset_levels head
 
 abbrev pub dc_predictors : Head → List Coded → List ℤ
 dc_predictors head [] = reset_levels head
