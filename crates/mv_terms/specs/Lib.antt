@@ -1,4 +1,13 @@
+pub mod PicTypes
+pub mod Unsupported
 pub mod Ranges
 pub mod Rates
+pub mod Scans
+pub mod Matrices
+pub mod Decisions
+pub mod CodedPicture
+pub mod UnitLists
 pub mod Order
+pub mod Sums
+pub mod Block
 pub mod Texts

@@ -1,5 +1,5 @@
 -- The legal ranges of what headers, macroblocks and frame files say.
-use Rattle.std.specs.Prelude.{◌≡◌, ℕ, ◌+◌, ◌*◌, ◌/◌, ◌%◌, ◌<◌, ◌≤◌, Bool, true, false, IsTrue, List, [], All, slice_index_or, ℤ, pos, negsuc, ◌≤ℤ◌}
+use Rattle.std.specs.Prelude.{◌≡◌, ℕ, ◌+◌, ◌*◌, ◌/◌, ◌%◌, ◌^◌, ◌<◌, ◌≤◌, Bool, true, false, IsTrue, List, [], All, slice_index_or, ℤ, pos, negsuc, ◌≤ℤ◌}
 use Rattle.mv_terms.specs.declared.head.PicType.{PicType}
 use Rattle.mv_terms.specs.declared.head.PicType.TheVariants as pic
 use Rattle.mv_terms.specs.declared.head.Matrices.{Matrices}
@@ -100,7 +100,12 @@ abbrev pub row_lines : Bool → ℕ
 row_lines true = 16
 row_lines false = 32
 
--- A header of a frame file of whole macroblocks.
+-- A number of a frame rate, 0 where the file names no rate: at most nine digits are written.
+abbrev pub IsRateNumber : ℕ → Type 0
+IsRateNumber n = n < 10 ^ 9
+
+-- A header of a frame file of whole macroblocks. It names a rate whole or not at all, and which field comes first only
+-- where there are fields.
 pub record IsFrameHeader (h : FrameHeader) : Type 0 where
   pub some_wide : 0 < h.wide
   pub wide : h.wide ≤ 1920
@@ -108,3 +113,8 @@ pub record IsFrameHeader (h : FrameHeader) : Type 0 where
   pub some_high : 0 < h.high
   pub high : h.high ≤ 1152
   pub whole_high : h.high % row_lines h.progressive ≡ 0
+  pub scan : h.progressive ≡ true → h.bottom_first ≡ false
+  pub rate_num : IsRateNumber h.rate_num
+  pub rate_den : IsRateNumber h.rate_den
+  pub num_with_den : h.rate_num ≡ 0 → h.rate_den ≡ 0
+  pub den_with_num : h.rate_den ≡ 0 → h.rate_num ≡ 0

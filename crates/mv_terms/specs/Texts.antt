@@ -74,11 +74,4 @@ status_text status.NoMemory = codes "memory"
 -- what is said of a status, with the line feed at its end; of `Done` nothing is said
 abbrev pub line_of : Status → List ℕ
 line_of status.Done = []
-line_of status.Words = codes "words\n"
-line_of (status.Unit k w) = codes "unit " ++ (decimal k ++ (codes ": " ++ (why_name w ++ (why_number w ++ codes "\n"))))
-line_of (status.Frames f) = frame_fault_text f ++ codes "\n"
-line_of (status.Line n f) = codes "line " ++ (decimal n ++ (codes ": " ++ (line_fault_text f ++ codes "\n")))
-line_of status.OpenFault = codes "open\n"
-line_of status.ReadFault = codes "read\n"
-line_of status.WriteFault = codes "write\n"
-line_of status.NoMemory = codes "memory\n"
+line_of other = status_text other ++ codes "\n"

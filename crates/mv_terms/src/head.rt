@@ -1,5 +1,6 @@
 //! What the headers of a sequence and of a picture say (H.262, 6.2.2 and 6.2.3).
 ghost use Rattle.std.specs.Prelude.{◌≡◌, ◌<◌, ◌≤◌, ◌^◌, ◌↔◌, IsTrue, All};
+ghost use Rattle.mv_terms.specs.Matrices.{default_matrices};
 ghost use Rattle.mv_terms.specs.Ranges.{IsUsed, has_forward, has_backward, HasNoZero, HasLegalSize, HasLegalRate, HasLegalFCodes, IsPictureSize, IsContext, IsHead, macroblock_columns, macroblock_rows};
 
 /// The type of a picture, `picture_coding_type` 1 to 3 (H.262, 6.3.9). I and P pictures are anchors: other
@@ -82,7 +83,26 @@ pub struct UnitParts<'a> {
     pub end: Option<u64>,
 }
 
+/// The matrix of intra blocks where a sequence header loads none (H.262, 6.3.11).
+#[rattlefmt::skip]
+const DEFAULT_INTRA: [u8; 64] = [
+    8, 16, 19, 22, 26, 27, 29, 34,
+    16, 16, 22, 24, 27, 29, 34, 37,
+    19, 22, 26, 27, 29, 34, 34, 38,
+    22, 22, 26, 27, 29, 34, 37, 40,
+    22, 26, 27, 29, 32, 35, 40, 48,
+    26, 27, 29, 32, 35, 40, 48, 58,
+    26, 27, 29, 34, 38, 46, 56, 69,
+    27, 29, 35, 38, 46, 56, 69, 83,
+];
+
 impl Matrices {
+    /// The matrices where a sequence header loads none.
+    pub const DEFAULT: Matrices = Matrices {
+        intra: DEFAULT_INTRA,
+        non_intra: [16; 64],
+    };
+
     /// Whether no entry is 0.
     pub fn is_legal(&self) -> bool
         ensures { IsTrue result ↔ HasNoZero self.now }
@@ -109,6 +129,11 @@ impl PicType {
         matches!(self, PicType::B)
     }
 }
+
+/// The default matrices are those of the standard.
+pub fn default_matrices_law()
+    ensures { Matrices.DEFAULT ≡ default_matrices }
+{}
 
 fn fit_their_bits(f_codes: &[u8; 2]) -> bool
     ensures { IsTrue result ↔ All (λ n. n ≤ 15) f_codes.now }
@@ -213,10 +238,7 @@ mod tests {
             alternate: false,
             mb_wide: 6,
             mb_high: 4,
-            matrices: Matrices {
-                intra: [16; 64],
-                non_intra: [16; 64],
-            },
+            matrices: Matrices::DEFAULT,
         }
     }
 

@@ -23,8 +23,7 @@ pub enum Why {
     TooLong,
     /// A header has a forbidden value.
     BadHead,
-    /// A header names what the codec doesn't decode: 1 chroma format, 2 scalable extension, 3 size, 4 field
-    /// picture, 5 dual prime, 6 D picture.
+    /// The stream names what the codec doesn't decode, by the numbers of the module `unsupported`.
     Unsupported(u8),
     /// The size or the progressive flag isn't that of the first unit.
     SizeChanged,
