@@ -10,7 +10,7 @@ abbrev pub NeverFall : (List ℕ → ℕ) → (List ℕ → ℕ) → Type 0
 NeverFall before now = (name : List ℕ) → before name ≤ now name
 
 -- Some name counts as selected, and the count of each such name rose.
-pub record RoseWhere (selected : List ℕ → Bool) (before now : List ℕ → ℕ) : Type 0 where
+pub record RoseForSelected (selected : List ℕ → Bool) (before now : List ℕ → ℕ) : Type 0 where
   pub some : (name : List ℕ) × IsTrue (selected name)
   pub each : (name : List ℕ) → IsTrue (selected name) → Rose (before name) (now name)
 

@@ -1,6 +1,10 @@
 pub mod Causes
 pub mod Moves
+pub mod Sends
+pub mod Shelves
 pub mod Ends
+pub mod Endings
+pub mod Complete
 pub mod Places
 pub mod Plan
 pub mod Clean

@@ -1,5 +1,5 @@
 -- What a shelf in memory holds.
-use Rattle.std.specs.Prelude.{◌≡◌, ℕ, List, Bool, false, slice_index}
+use Rattle.std.specs.Prelude.{◌≡◌, ℕ, List, Bool, false, slice_index, Option, Some}
 use Rattle.mv_ends.specs.declared.failing.MemShelf.{MemShelf}
 use Rattle.mv_ends.specs.declared.failing.Plan.{Plan}
 use Rattle.mv_ends.specs.Moves.{Inputs}
@@ -14,6 +14,10 @@ left_in s = left_of s.inputs.items s.selected s.at
 
 abbrev pub selected_in : MemShelf → List ℕ → Bool
 selected_in s name = is_place s.selected (place_of s.inputs.items name)
+
+-- what it tells of its inputs: all
+abbrev pub told_by : MemShelf → Option Inputs
+told_by s = Some (inputs_in s)
 
 -- how often opening and reading the input of a name failed, and which calls are to fail
 abbrev pub open_faults_in : MemShelf → List ℕ → ℕ

@@ -3,7 +3,7 @@ ghost use Rattle.std.specs.Prelude.{◌≡◌, ◌≤◌, [], Some, IfOk, false,
 ghost use Rattle.std.specs.Option.{ForSome};
 ghost use Rattle.mv_ends.specs.Places.{inputs_of, place_of, left_of, is_place, IsFirst};
 
-use crate::inputs::{input_at, moved, place};
+use crate::inputs::{copy_front, index_of, input_at};
 use crate::{Failed, Shelf, Sink};
 use std::alloc::{AllocError, Global};
 
@@ -44,7 +44,7 @@ impl Shelf for CleanShelf {
     ghost read_faults = { λ _ _. 0 };
 
     fn select(&mut self, name: &str) -> Result<(), Failed> {
-        self.selected = Some(place(&self.inputs, name));
+        self.selected = Some(index_of(&self.inputs, name));
         self.at = 0;
         Ok(())
     }
@@ -53,7 +53,7 @@ impl Shelf for CleanShelf {
         let Some(place) = self.selected else {
             return Ok(0);
         };
-        let count = moved(input_at(&self.inputs, place), self.at, usize::MAX, buf);
+        let count = copy_front(input_at(&self.inputs, place), self.at, usize::MAX, buf);
         self.at += count;
         Ok(count)
     }

@@ -3,45 +3,9 @@ ghost use Rattle.std.specs.Prelude.{◌≡◌, ◌+◌, ◌-◌, ◌≤◌, ◌<
 ghost use Rattle.std.specs.Option.{ForSome};
 ghost use Rattle.mv_ends.specs.Places.{inputs_of, place_of, left_of, is_place, IsFirst};
 
-use crate::inputs::{input_at, moved, place};
+use crate::inputs::{copy_front, index_of, input_at};
 use crate::{Failed, Shelf, Sink};
 use std::alloc::{AllocError, Global};
-
-/// Which calls are to fail, counted from 0, and the most bytes that one moves.
-#[derive(Drop)]
-struct Plan {
-    call: u64,
-    fails: Vec<u64>,
-    most: usize,
-    ghost moves: { 0 < most },
-}
-
-impl Plan {
-    ghost use Rattle.mv_ends.specs.Plan.{FailsNext, IsPast};
-
-    fn new(fails: Vec<u64>, most: usize) -> Self
-        requires { 0 < most }
-        ensures call { result.call ≡ 0 }
-        ensures fails { result.fails.items ≡ fails.items }
-        ensures most { result.most ≡ most }
-    {
-        Plan {
-            call: 0,
-            fails,
-            most,
-        }
-    }
-
-    // Whether this call is to fail.
-    fn fails_now(&mut self) -> bool
-        ensures planned { IsTrue result ↔ FailsNext self.old }
-        ensures past { IsPast self.old self.new }
-    {
-        let call = self.call;
-        self.call = self.call.saturating_add(1);
-        self.fails.contains(&call)
-    }
-}
 
 /// A sink that keeps what it takes, and tells it. Writes that are told to fail do, and those that come when it is full.
 #[derive(Drop)]
@@ -108,12 +72,16 @@ impl Sink for MemSink {
     fn write(&mut self, buf: &[u8]) -> Result<usize, Failed>
         requires { 0 < length buf.now }
         ensures bound { WritesSome result buf.now }
-        ensures bytes { WriteAppends (Some (taken_by self.old)) (Some (taken_by self.new)) result buf.now }
-        ensures count { Counts (faults_of self.old) (faults_of self.new) 0 (Some (taken_by self.old)) (Some (taken_by self.new)) }
-        ensures failed { OnErr result (FailedWrite (faults_of self.old) (faults_of self.new) 0 (Some (taken_by self.old)) (Some (taken_by self.new))) }
+        ensures bytes { WriteAppends (Some (taken_by self.old)) (Some (taken_by self.new))
+            result buf.now }
+        ensures count { Counts (faults_of self.old) (faults_of self.new)
+            0 (Some (taken_by self.old)) (Some (taken_by self.new)) }
+        ensures failed { OnErr result (FailedWrite (faults_of self.old) (faults_of self.new)
+            0 (Some (taken_by self.old)) (Some (taken_by self.new))) }
 
         // It fails exactly where the plan says so or it is full.
-        ensures fails { IsErr result ↔ (FailsNext (plan_of self.old) ⊎ (room_of self.old ≤ length (taken_by self.old))) }
+        ensures fails { IsErr result
+            ↔ (FailsNext (plan_of self.old) ⊎ (room_of self.old ≤ length (taken_by self.old))) }
         ensures most { IfOk result (λ n. n ≤ (plan_of self.old).most) }
         ensures plan { IsPast (plan_of self.old) (plan_of self.new) }
         ensures same { room_of self.new ≡ room_of self.old }
@@ -179,9 +147,10 @@ impl Shelf for MemShelf {
     ghost use Rattle.std.specs.FinMap.{get};
     ghost use Rattle.std.specs.Io.{ReadsAtMost};
     ghost use Rattle.std.specs.Io.KnownBytes.{IsAtEnd, ReadConsumes};
-    ghost use Rattle.mv_ends.specs.Causes.{Rose, NeverFall, RoseWhere};
+    ghost use Rattle.mv_ends.specs.Causes.{Rose, RoseForSelected};
     ghost use Rattle.mv_ends.specs.Moves.{Opens};
-    ghost use Rattle.mv_ends.specs.MemShelf.{inputs_in, left_in, selected_in, open_faults_in, read_faults_in, plan_of};
+    ghost use Rattle.mv_ends.specs.Shelves.{KeepsShelf};
+    ghost use Rattle.mv_ends.specs.MemShelf.{told_by, inputs_in, left_in, selected_in, open_faults_in, read_faults_in, plan_of};
     ghost use Rattle.mv_ends.specs.Plan.{FailsNext, IsPast};
 
     ghost named = { λ s. Some (inputs_of s.inputs.items) };
@@ -195,25 +164,28 @@ impl Shelf for MemShelf {
     ghost read_faults = { λ s name. slice_index s.reads.items (place_of s.inputs.items name) };
 
     fn select(&mut self, name: &str) -> Result<(), Failed>
-        ensures opened { OnOk result (Opens (Some (inputs_in self.old)) name.now (Some (left_in self.new))) }
+        ensures opened { OnOk result
+            (Opens (Some (inputs_in self.old)) name.now (Some (left_in self.new))) }
         ensures chosen { OnOk result (IsTrue (selected_in self.new name.now)) }
-        ensures failed { OnErr result (Rose (open_faults_in self.old name.now) (open_faults_in self.new name.now)) }
+        ensures failed { OnErr result
+            (Rose (open_faults_in self.old name.now) (open_faults_in self.new name.now)) }
         ensures nothing { OnErr result (IsAtEnd (Some (left_in self.new))) }
-        ensures inputs { Some (inputs_in self.new) ≡ Some (inputs_in self.old) }
-        ensures opens { NeverFall (open_faults_in self.old) (open_faults_in self.new) }
-        ensures reads { NeverFall (read_faults_in self.old) (read_faults_in self.new) }
+        ensures keeps { KeepsShelf told_by open_faults_in read_faults_in self.old self.new }
 
         // It fails exactly where the plan says so or no input has this name.
-        ensures fails { IsErr result ↔ (FailsNext (plan_of self.old) ⊎ IsNone (get (inputs_in self.old) name.now)) }
+        ensures fails { IsErr result
+            ↔ (FailsNext (plan_of self.old) ⊎ IsNone (get (inputs_in self.old) name.now)) }
         ensures plan { IsPast (plan_of self.old) (plan_of self.new) }
 
         // No other name counts as selected, and no faults move but those of this name, where it failed.
         ensures quiet { OnOk result (open_faults_in self.new ≡ open_faults_in self.old) }
-        ensures only { (other : List ℕ) → IsTrue (selected_in self.new other) → IsOk result × (other ≡ name.now) }
-        ensures others { (other : List ℕ) → IsSome (get (inputs_in self.old) other) → ¬ (other ≡ name.now) → open_faults_in self.new other ≡ open_faults_in self.old other }
+        ensures only { (other : List ℕ) → IsTrue (selected_in self.new other)
+            → IsOk result × (other ≡ name.now) }
+        ensures others { (other : List ℕ) → IsSome (get (inputs_in self.old) other)
+            → ¬ (other ≡ name.now) → open_faults_in self.new other ≡ open_faults_in self.old other }
     {
         let fails = self.plan.fails_now();
-        let place = place(&self.inputs, name);
+        let place = index_of(&self.inputs, name);
         self.at = 0;
         if fails || place == self.inputs.len() {
             self.selected = None;
@@ -227,23 +199,26 @@ impl Shelf for MemShelf {
     fn read(&mut self, buf: &mut [u8]) -> Result<usize, Failed>
         requires { 0 < length buf.old }
         ensures bound { ReadsAtMost result buf.new }
-        ensures bytes { ReadConsumes (Some (left_in self.old)) (Some (left_in self.new)) result buf.new }
-        ensures unselected { ((name : List ℕ) → IsTrue (selected_in self.old name) → ⊥) → result ≡ Ok 0 }
-        ensures failed { OnErr result (RoseWhere (selected_in self.old) (read_faults_in self.old) (read_faults_in self.new)) }
+        ensures bytes { ReadConsumes (Some (left_in self.old)) (Some (left_in self.new))
+            result buf.new }
+        ensures unselected { ((name : List ℕ) → IsTrue (selected_in self.old name) → ⊥)
+            → result ≡ Ok 0 }
+        ensures failed { OnErr result (RoseForSelected (selected_in self.old)
+            (read_faults_in self.old) (read_faults_in self.new)) }
         ensures chosen { selected_in self.new ≡ selected_in self.old }
-        ensures inputs { Some (inputs_in self.new) ≡ Some (inputs_in self.old) }
-        ensures opens { NeverFall (open_faults_in self.old) (open_faults_in self.new) }
-        ensures reads { NeverFall (read_faults_in self.old) (read_faults_in self.new) }
+        ensures keeps { KeepsShelf told_by open_faults_in read_faults_in self.old self.new }
 
         // It fails exactly where the plan says so and a name counts as selected.
         ensures planned { OnErr result (FailsNext (plan_of self.old)) }
-        ensures fails { FailsNext (plan_of self.old) → (name : List ℕ) → IsTrue (selected_in self.old name) → IsErr result }
+        ensures fails { FailsNext (plan_of self.old)
+            → (name : List ℕ) → IsTrue (selected_in self.old name) → IsErr result }
         ensures plan { IsPast (plan_of self.old) (plan_of self.new) }
         ensures most { IfOk result (λ n. n ≤ (plan_of self.old).most) }
 
         // No faults move but those of the selected names, where it failed.
         ensures quiet { OnOk result (read_faults_in self.new ≡ read_faults_in self.old) }
-        ensures others { (other : List ℕ) → ¬ IsTrue (selected_in self.old other) → read_faults_in self.new other ≡ read_faults_in self.old other }
+        ensures others { (other : List ℕ) → ¬ IsTrue (selected_in self.old other)
+            → read_faults_in self.new other ≡ read_faults_in self.old other }
     {
         let fails = self.plan.fails_now();
         let Some(place) = self.selected else {
@@ -253,8 +228,44 @@ impl Shelf for MemShelf {
             self.reads[place] = self.reads[place].saturating_add(1);
             return Err(Failed);
         }
-        let count = moved(input_at(&self.inputs, place), self.at, self.plan.most, buf);
+        let count = copy_front(input_at(&self.inputs, place), self.at, self.plan.most, buf);
         self.at += count;
         Ok(count)
+    }
+}
+
+/// Which calls are to fail, counted from 0, and the most bytes that one moves.
+#[derive(Drop)]
+struct Plan {
+    call: u64,
+    fails: Vec<u64>,
+    most: usize,
+    ghost moves: { 0 < most },
+}
+
+impl Plan {
+    ghost use Rattle.mv_ends.specs.Plan.{FailsNext, IsPast};
+
+    fn new(fails: Vec<u64>, most: usize) -> Self
+        requires { 0 < most }
+        ensures call { result.call ≡ 0 }
+        ensures fails { result.fails.items ≡ fails.items }
+        ensures most { result.most ≡ most }
+    {
+        Plan {
+            call: 0,
+            fails,
+            most,
+        }
+    }
+
+    // Whether this call is to fail.
+    fn fails_now(&mut self) -> bool
+        ensures planned { IsTrue result ↔ FailsNext self.old }
+        ensures past { IsPast self.old self.new }
+    {
+        let call = self.call;
+        self.call = self.call.saturating_add(1);
+        self.fails.contains(&call)
     }
 }

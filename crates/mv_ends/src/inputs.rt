@@ -3,7 +3,7 @@ ghost use Rattle.std.specs.Prelude.{◌≡◌, ◌+◌, ◌-◌, ◌≤◌, ◌<
 ghost use Rattle.mv_ends.specs.Places.{place_of, bytes_of};
 
 /// Where the first input of this name stands, or how many there are.
-pub(crate) fn place(inputs: &[(String, Vec<u8>)], name: &str) -> usize
+pub(crate) fn index_of(inputs: &[(String, Vec<u8>)], name: &str) -> usize
     ensures place { result ≡ place_of inputs.now name.now }
     ensures within { result ≤ length inputs.now }
 {
@@ -26,7 +26,7 @@ pub(crate) fn input_at(inputs: &[(String, Vec<u8>)], place: usize) -> &[u8]
 }
 
 /// Moves the front of what is left behind a place into the buffer, and answers how many bytes.
-pub(crate) fn moved(bytes: &[u8], at: usize, most: usize, buf: &mut [u8]) -> usize
+pub(crate) fn copy_front(bytes: &[u8], at: usize, most: usize, buf: &mut [u8]) -> usize
     requires moves { 0 < most }
     ensures count { result ≡ min (min (length buf.new) most) (length bytes.now - at) }
     ensures place { at + result ≤ max at (length bytes.now) }

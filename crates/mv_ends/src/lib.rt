@@ -2,26 +2,30 @@
 //!
 //! Bytes that are read are the front of what is left, bytes that are written are the front of the piece, and a
 //! failure is answered only where the endpoint counted it. `specs/Causes` says when a count rose, `specs/Moves` what
-//! becomes of the bytes, and `specs/Ends` how a call ends whose output its input defines. There are endpoints in
-//! memory, which tell contracts everything, and those of the system, which tell them no content.
+//! becomes of the bytes, `specs/Sends` what a call does that writes bytes whole, and `specs/Ends` how a call ends whose
+//! output its input defines; by `specs/Complete` it ends so wherever no fault is counted. There are endpoints in memory,
+//! which tell contracts everything, and those of the system, which tell them no content.
 #![tactic(auto)]
 
 ghost use Rattle.std.specs.Prelude.{◌≡◌, ℕ, ◌<◌, ◌≤◌, List, Bool, Option, Ok, IsTrue, OnOk, OnErr, length};
 ghost use Rattle.std.specs.Io.{ReadsAtMost};
-ghost use Rattle.std.specs.Io.KnownBytes.{Appends, IsAtEnd, ReadConsumes, WriteAppends};
-ghost use Rattle.mv_ends.specs.Causes.{Rose, NeverFall, Counts, FailedWrite, RoseWhere};
-ghost use Rattle.mv_ends.specs.Moves.{Inputs, Opens, WritesSome, AppendsFront, AppendsPart, joined};
+ghost use Rattle.std.specs.Io.KnownBytes.{IsAtEnd, ReadConsumes, WriteAppends};
+ghost use Rattle.mv_ends.specs.Causes.{Rose, Counts, FailedWrite, RoseForSelected};
+ghost use Rattle.mv_ends.specs.Moves.{Inputs, Opens, WritesSome, joined};
+ghost use Rattle.mv_ends.specs.Sends.{Sends};
+ghost use Rattle.mv_ends.specs.Shelves.{KeepsShelf};
+ghost use Rattle.mv_ends.specs.Complete.{NoFaultIsComplete};
 
 mod clean;
 mod failing;
 mod inputs;
-mod real;
+mod system;
 #[cfg(test)]
 mod tests;
 
 pub use clean::{CleanShelf, CleanSink};
 pub use failing::{MemShelf, MemSink};
-pub use real::{FileShelf, StdSink};
+pub use system::{FileShelf, StdSink};
 
 /// An endpoint failed, and has counted it.
 #[derive(Clone, Copy, Debug, PartialEq, Eq)]
@@ -54,27 +58,26 @@ pub trait Shelf {
         ensures chosen { OnOk result (IsTrue (selected self.new name.now)) }
 
         // It fails only where the faults of this very name rose.
-        ensures failed { OnErr result (Rose (open_faults self.old name.now) (open_faults self.new name.now)) }
+        ensures failed { OnErr result
+            (Rose (open_faults self.old name.now) (open_faults self.new name.now)) }
         ensures nothing { OnErr result (IsAtEnd (rest self.new)) }
 
-        ensures inputs { named self.new ≡ named self.old }
-        ensures opens { NeverFall (open_faults self.old) (open_faults self.new) }
-        ensures reads { NeverFall (read_faults self.old) (read_faults self.new) };
+        ensures keeps { KeepsShelf named open_faults read_faults self.old self.new };
 
     /// Moves the front of the rest into the buffer, and answers how many bytes; 0 says that none was left.
     fn read(&mut self, buf: &mut [u8]) -> Result<usize, Failed>
         requires { 0 < length buf.old }
         ensures bound { ReadsAtMost result buf.new }
         ensures bytes { ReadConsumes (rest self.old) (rest self.new) result buf.new }
-        ensures unselected { ((name : List ℕ) → IsTrue (selected self.old name) → ⊥) → result ≡ Ok 0 }
+        ensures unselected { ((name : List ℕ) → IsTrue (selected self.old name) → ⊥)
+            → result ≡ Ok 0 }
 
         // It fails only where a name counts as selected and the faults of each such name rose.
-        ensures failed { OnErr result (RoseWhere (selected self.old) (read_faults self.old) (read_faults self.new)) }
+        ensures failed { OnErr result
+            (RoseForSelected (selected self.old) (read_faults self.old) (read_faults self.new)) }
 
         ensures chosen { selected self.new ≡ selected self.old }
-        ensures inputs { named self.new ≡ named self.old }
-        ensures opens { NeverFall (open_faults self.old) (open_faults self.new) }
-        ensures reads { NeverFall (read_faults self.old) (read_faults self.new) };
+        ensures keeps { KeepsShelf named open_faults read_faults self.old self.new };
 }
 
 /// Takes bytes, in pieces.
@@ -97,41 +100,34 @@ pub trait Sink {
         ensures bound { WritesSome result buf.now }
         ensures bytes { WriteAppends (written self.old) (written self.new) result buf.now }
         ensures same_room { room self.new ≡ room self.old }
-        ensures count { Counts (faults self.old) (faults self.new) (room self.old) (written self.old) (written self.new) }
-        ensures failed { OnErr result (FailedWrite (faults self.old) (faults self.new) (room self.old) (written self.old) (written self.new)) };
+        ensures count { Counts (faults self.old) (faults self.new)
+            (room self.old) (written self.old) (written self.new) }
+        ensures failed { OnErr result (FailedWrite (faults self.old) (faults self.new)
+            (room self.old) (written self.old) (written self.new)) };
 }
 
 /// Writes all the bytes, in turns. After a failure some of them are not written, and those before them are.
 pub fn send<O: Sink>(out: &mut O, bytes: &[u8]) -> Result<(), Failed>
-    ensures sent { OnOk result (Appends (O.written out.old) (O.written out.new) bytes.now) }
-    ensures front { OnErr result (AppendsFront (O.written out.old) (O.written out.new) bytes.now) }
-    ensures same_room { O.room out.new ≡ O.room out.old }
-    ensures count { Counts (O.faults out.old) (O.faults out.new) (O.room out.old) (O.written out.old) (O.written out.new) }
-    ensures failed { OnErr result (FailedWrite (O.faults out.old) (O.faults out.new) (O.room out.old) (O.written out.old) (O.written out.new)) }
+    ensures { Sends O.written O.faults O.room out.old out.new bytes.now result }
 {
     let mut sent = 0;
     while sent < bytes.len() {
-        match out.write(&bytes[sent..]) {
-            Ok(count) => sent += count,
-            Err(failed) => return Err(failed),
-        }
+        sent += out.write(&bytes[sent..])?;
     }
     Ok(())
 }
 
 /// Writes all the pieces, one after another. After a failure some bytes are not written, and those before them are.
 pub fn send_all<O: Sink>(out: &mut O, pieces: &[&[u8]]) -> Result<(), Failed>
-    ensures sent { OnOk result (Appends (O.written out.old) (O.written out.new) (joined pieces.now)) }
-    ensures front { OnErr result (AppendsFront (O.written out.old) (O.written out.new) (joined pieces.now)) }
-    ensures same_room { O.room out.new ≡ O.room out.old }
-    ensures count { Counts (O.faults out.old) (O.faults out.new) (O.room out.old) (O.written out.old) (O.written out.new) }
-    ensures failed { OnErr result (FailedWrite (O.faults out.old) (O.faults out.new) (O.room out.old) (O.written out.old) (O.written out.new)) }
+    ensures { Sends O.written O.faults O.room out.old out.new (joined pieces.now) result }
 {
     for piece in pieces {
-        match send(out, piece) {
-            Ok(()) => {}
-            Err(failed) => return Err(failed),
-        }
+        send(out, piece)?;
     }
     Ok(())
 }
+
+/// A call ends as it is defined, or for want of memory, where no count of its endpoints' faults rose.
+pub fn completeness_law()
+    ensures { NoFaultIsComplete }
+{}

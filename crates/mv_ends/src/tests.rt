@@ -1,3 +1,4 @@
+//! Endpoints in memory that fail where they are told, and what is sent to them.
 use crate::*;
 use std::alloc::{AllocError, Global};
 use std::test::Fail;

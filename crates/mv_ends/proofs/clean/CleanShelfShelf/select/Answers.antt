@@ -12,5 +12,5 @@ invariant_of-self c = record {
 
 pub returns-clause-opened : goal.returns-clause-opened
 returns-clause-opened c =
-    let here : c.place.result ≡ place_of c.args.self.now.inputs.items c.args.name.now = cc in
+    let here : c.index_of.result ≡ place_of c.args.self.now.inputs.items c.args.name.now = cc in
     rw here (sym (input_of-place c.args.name.now c.args.self.now.inputs.items))

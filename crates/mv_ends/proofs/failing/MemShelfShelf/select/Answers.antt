@@ -12,12 +12,12 @@ invariant_of-self-2-clause-first c x is =
 
 pub returns-clause-opened : goal.returns-clause-opened
 returns-clause-opened c =
-    let here : c.place-place.result ≡ place_of c.args.self.now.inputs.items c.args.name.now = cc in
+    let here : c.index_of-place.result ≡ place_of c.args.self.now.inputs.items c.args.name.now = cc in
     rw here (sym (input_of-place c.args.name.now c.args.self.now.inputs.items))
 
 pub returns-then-fails-clause-fails : goal.returns-then-fails-clause-fails
 returns-then-fails-clause-fails c =
-    let here : c.place-place.result ≡ place_of c.args.self.now.inputs.items c.args.name.now = cc in (
+    let here : c.index_of-place.result ≡ place_of c.args.self.now.inputs.items c.args.name.now = cc in (
       λ _. elim c.then-fails.branch [
         | then-fails-via-then-fails w ↦ inl (c.fails_now-fails.ensures.planned.0 w.if-fails.true)
         | then-fails-via-else-fails+then-place-len w ↦
@@ -28,13 +28,13 @@ returns-then-fails-clause-fails c =
 
 pub returns-then-fails-clause-others : goal.returns-then-fails-clause-others
 returns-then-fails-clause-others c other known different =
-    let here : c.place-place.result ≡ place_of c.args.self.now.inputs.items c.args.name.now = cc in
+    let here : c.index_of-place.result ≡ place_of c.args.self.now.inputs.items c.args.name.now = cc in
     other_stays c.args.self.now.inputs.items _ c.args.name.now other _ _ here (known_within other c.args.self.now.inputs.items known) different
 
 pub returns-clause-fails : goal.returns-clause-fails
 returns-clause-fails c =
-    let here : c.place-place.result ≡ place_of c.args.self.now.inputs.items c.args.name.now = cc in
-    let within : c.place-place.result ≤ length c.args.self.now.inputs.items = omega (arith, ap length c.deref.ensures.value, c.place-place.ensures.within) in (
+    let here : c.index_of-place.result ≡ place_of c.args.self.now.inputs.items c.args.name.now = cc in
+    let within : c.index_of-place.result ≤ length c.args.self.now.inputs.items = omega (arith, ap length c.deref.ensures.value, c.index_of-place.ensures.within) in (
       λ never. absurd (cc),
       λ either. absurd (⊎_elim
           (λ planned. let fails : c.fails_now-fails.result ≡ true = c.fails_now-fails.ensures.planned.1 planned in cc)
@@ -45,7 +45,7 @@ returns-clause-fails c =
 
 pub returns-clause-only : goal.returns-clause-only
 returns-clause-only c other chosen =
-    let here : c.place-place.result ≡ place_of c.args.self.now.inputs.items c.args.name.now = cc in
-    let at : c.place-place.result ≡ place_of c.args.self.now.inputs.items other = eqb-true _ _ chosen in
-    let within : place_of c.args.self.now.inputs.items c.args.name.now < length c.args.self.now.inputs.items = omega (arith, here, ap length c.deref.ensures.value, c.place-place.ensures.within, c.if-place-len.false, c.len.ensures, c.args.self.now.inputs.ok.0) in
+    let here : c.index_of-place.result ≡ place_of c.args.self.now.inputs.items c.args.name.now = cc in
+    let at : c.index_of-place.result ≡ place_of c.args.self.now.inputs.items other = eqb-true _ _ chosen in
+    let within : place_of c.args.self.now.inputs.items c.args.name.now < length c.args.self.now.inputs.items = omega (arith, here, ap length c.deref.ensures.value, c.index_of-place.ensures.within, c.if-place-len.false, c.len.ensures, c.args.self.now.inputs.ok.0) in
     (refl, same_place c.args.self.now.inputs.items c.args.name.now other within (sym here ∙ at))

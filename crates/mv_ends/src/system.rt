@@ -20,8 +20,10 @@ pub struct FileShelf<'a, R: Files> {
 impl<'a, R: Files> FileShelf<'a, R> {
     /// A shelf of which no file is open.
     pub fn new(rt: &'a R) -> Self
-        ensures opens { (name : List ℕ) → ⟦<FileShelf<'a, R> as Shelf>⟧.open_faults result name ≡ 0 }
-        ensures reads { (name : List ℕ) → ⟦<FileShelf<'a, R> as Shelf>⟧.read_faults result name ≡ 0 }
+        ensures opens { (name : List ℕ)
+            → ⟦<FileShelf<'a, R> as Shelf>⟧.open_faults result name ≡ 0 }
+        ensures reads { (name : List ℕ)
+            → ⟦<FileShelf<'a, R> as Shelf>⟧.read_faults result name ≡ 0 }
     {
         FileShelf {
             rt,
