@@ -2,7 +2,10 @@ pub mod BitLaws
 pub mod TrimLaws
 pub mod StartLaws
 pub mod CutLaws
+pub mod JoinLaws
+pub mod PieceLaws
+pub mod ZeroByteLaws
 pub mod RunLaws
 pub mod ReadingLaws
 pub mod Decisions
-mod WindowLemmas
+pub mod KeptLaws
