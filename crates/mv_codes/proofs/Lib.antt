@@ -1,3 +1,5 @@
 pub mod TableLaws
 pub mod TableFacts
-mod SearchLemmas
+pub mod LookUpLaws
+pub mod LookUpFacts
+mod FirstLemmas

@@ -1,4 +1,5 @@
 pub mod Tables
+pub mod LookUp
 pub mod Increments
 pub mod Types
 pub mod Patterns

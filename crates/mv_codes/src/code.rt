@@ -1,7 +1,10 @@
-ghost use Rattle.std.specs.Prelude.{IfNone, IfSome, IsTrue};
+//! A list of codes, and how one of them is found.
+ghost use Rattle.std.specs.Prelude.{◌≤◌, length, IfNone, IfSome, IsTrue};
 ghost use Rattle.std.specs.List.{Contains, list_all};
 ghost use Rattle.mv_codes.specs.Tables.{Begins, NoneBegins, Reads, is_short};
+ghost use Rattle.mv_codes.specs.LookUp.{find_all};
 
+use crate::look_up::{LongTable, entry};
 use mv_bits::BitWindow;
 
 /// A code: the lowest `size` bits of `value`, the highest first, and what they mean.
@@ -21,33 +24,44 @@ macro_rules! codes {
 
 pub(crate) use codes;
 
-/// The first code of the list that begins the bits.
-pub(crate) fn find<M: Copy>(codes: &[Code<M>], w: &BitWindow<'_>) -> Option<Code<M>>
-    requires { IsTrue (list_all is_short codes.now) }
+/// Reads a code of the list that these look-up tables belong to.
+#[inline(always)]
+pub(crate) fn read<M: Copy>(
+    codes: &[Code<M>],
+    short: &[u8; 256],
+    long: LongTable<'_>,
+    w: &mut BitWindow<'_>,
+) -> Option<M>
+    requires few { length codes.now ≤ 255 }
+    requires sizes { IsTrue (list_all is_short codes.now) }
+    requires look_up { IsTrue (find_all codes.now short.now long.width long.first long.rows.now) }
+    ensures { Reads codes.now w.old w.new result }
+{
+    let c = find(codes, short, long, w)?;
+    let _ = w.take(c.size);
+    Some(c.meaning)
+}
+
+/// The code of the list that begins the bits.
+#[inline(always)]
+pub(crate) fn find<M: Copy>(
+    codes: &[Code<M>],
+    short: &[u8; 256],
+    long: LongTable<'_>,
+    w: &BitWindow<'_>,
+) -> Option<Code<M>>
+    requires few { length codes.now ≤ 255 }
+    requires sizes { IsTrue (list_all is_short codes.now) }
+    requires look_up { IsTrue (find_all codes.now short.now long.width long.first long.rows.now) }
     ensures found { IfSome result (λ c. Contains codes.now c) }
     ensures begins { IfSome result (λ c. Begins c w.now) }
     ensures short { IfSome result (λ c. IsTrue (is_short c)) }
     ensures none { IfNone result (NoneBegins codes.now w.now) }
 {
-    let bits = w.peek(16);
-    'codes: for c in codes {
-        if bits >> (16 - c.size) == c.value {
-            return Some(*c);
-        }
-    }
-    None
-}
-
-/// Reads a code of the list.
-pub(crate) fn read<M: Copy>(codes: &[Code<M>], w: &mut BitWindow<'_>) -> Option<M>
-    requires { IsTrue (list_all is_short codes.now) }
-    ensures { Reads codes.now w.old w.new result }
-{
-    match find(codes, w) {
-        None => None,
-        Some(c) => {
-            let _ = w.take(c.size);
-            Some(c.meaning)
-        }
+    let row = entry(short, long, w.peek(16));
+    if row < codes.len() {
+        Some(codes[row])
+    } else {
+        None
     }
 }

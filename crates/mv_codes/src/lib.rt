@@ -3,24 +3,28 @@
 //! Each table is a list of codes and meanings in `specs/`, row by row as annex B of H.262 prints it, and a constant
 //! here apart from it. The promise of a reader: it answers a value exactly where a code of that value begins the bits,
 //! and moves past that code alone; it answers None exactly where no code begins them, and the window stays. What this
-//! says stands in `specs/Tables.antt`.
+//! says stands in `specs/Tables.antt`. A reader finds its code in the tables of `look_up`, which name rows of the list;
+//! `look_up_law` says that they name the right ones (`specs/LookUp.antt`).
 #![tactic(auto)]
 
 mod code;
 mod coefficient;
+mod dc_size;
 mod increment;
+mod laws;
+pub mod look_up;
 mod macroblock_type;
 mod motion;
 mod pattern;
-mod size;
 
 pub use code::Code;
 pub use coefficient::{Coef, read_coef};
+pub use dc_size::read_dc_size;
 pub use increment::{Increment, read_increment};
+pub use laws::look_up_law;
 pub use macroblock_type::{TypeBits, read_type};
 pub use motion::read_motion;
 pub use pattern::read_pattern;
-pub use size::read_dc_size;
 
 #[cfg(test)]
 mod tests;

@@ -1,16 +1,13 @@
-use Rattle.mv_codes.proofs.SearchLemmas.{short_at, short_begins, short_begins_not, none_more, none_all}
+use Rattle.mv_codes.proofs.LookUpLaws.{row_begins, row_none, width_fits}
 use Rattle.mv_codes.proofs.code.find.Goals as goal
 
-pub returns-then-bits-c-clause-begins : goal.returns-then-bits-c-clause-begins
-returns-then-bits-c-clause-begins g c =
-    let short = short_at c.args.codes.now c.codes.c-index c.c-item.result c.requires c.codes-test.true c.c-item.is in
-    short_begins c.c-item.result c.peek-bits.result c.args.w.now short c.peek-bits.ensures.value c.if-bits-c.true
+pub returns-then-row-codes-clause-begins : goal.returns-then-row-codes-clause-begins
+returns-then-row-codes-clause-begins g c =
+    row_begins c.args.codes.now c.args.short.now c.args.long.width c.args.long.first c.args.long.rows.now c.args.w.now c.peek.result c.entry-row.result c.index-codes-row.result c.requires.few c.told-short c.requires.look_up c.peek.ensures.value c.entry-row.ensures c.if-row-codes.true c.index-codes-row.is
 
-pub codes-preserved : goal.codes-preserved
-codes-preserved g c =
-    let short = short_at c.args.codes.now c.codes.c-index c.c-item.result c.requires c.codes-test.true c.c-item.is in
-    none_more c.args.codes.now c.codes.c-index c.c-item.result c.args.w.now c.codes-test.true c.c-item.is
-    (short_begins_not c.c-item.result c.peek-bits.result c.args.w.now short c.peek-bits.ensures.value c.if-bits-c.false) c.codes.invariant
+pub returns-else-row-codes-clause-none : goal.returns-else-row-codes-clause-none
+returns-else-row-codes-clause-none g c =
+    row_none c.args.codes.now c.args.short.now c.args.long.width c.args.long.first c.args.long.rows.now c.args.w.now c.peek.result c.entry-row.result c.requires.few c.told-short c.requires.look_up c.peek.ensures.value c.entry-row.ensures c.if-row-codes.false
 
-pub returns-clause-none : goal.returns-clause-none
-returns-clause-none g c = none_all c.args.codes.now c.codes.c-index c.args.w.now c.codes-test.false c.codes.invariant
+pub entry-row-requires-clause-width : goal.entry-row-requires-clause-width
+entry-row-requires-clause-width g c = width_fits c.args.codes.now c.args.short.now c.args.long.width c.args.long.first c.args.long.rows.now c.requires.look_up
