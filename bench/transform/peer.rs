@@ -1,4 +1,4 @@
-//! The same transform in Rust, and the same million blocks in each direction.
+//! The same transform in Rust, and the same million blocks in each direction and of sparse inverses.
 
 use std::time::Instant;
 
@@ -82,6 +82,62 @@ fn rounded_parts(high: i32, low: i32) -> i32 {
 }
 
 fn inverse(c: &[i16; 64]) -> [i16; 64] {
+    let mut others = *c;
+    others[0] = 0;
+    let mut size = 0;
+    for k in 0..64 {
+        size += u32::from(others[k].unsigned_abs());
+    }
+    if size <= 124 { inverse_of_sparse(c, &others) } else { inverse_of_dense(c) }
+}
+
+fn row_of(block: &[i16; 64], row: usize) -> [i16; 8] {
+    let mut line = [0; 8];
+    line.copy_from_slice(&block[8 * row..8 * row + 8]);
+    line
+}
+
+fn add_line(sums: &mut [i32; 64], v: usize, line: &[i16; 8]) {
+    if line.iter().all(|value| *value == 0) {
+        return;
+    }
+    let line = inverse_of_line(line);
+    for y in 0..8 {
+        let weight = i32::from(BY_FREQUENCY[v][y]);
+        for x in 0..8 {
+            sums[8 * y + x] += weight * line[x];
+        }
+    }
+}
+
+fn sums_of_last_row(line: &[i16; 8]) -> [i32; 64] {
+    let mut sums = [0; 64];
+    if *line == [0, 0, 0, 0, 0, 0, 0, 1] {
+        for k in 0..64 {
+            sums[k] = i32::from(BY_FREQUENCY[7][k / 8]) * i32::from(BY_FREQUENCY[7][k % 8]);
+        }
+    } else {
+        add_line(&mut sums, 7, line);
+    }
+    sums
+}
+
+fn inverse_of_sparse(c: &[i16; 64], others: &[i16; 64]) -> [i16; 64] {
+    let mut sums = sums_of_last_row(&row_of(others, 7));
+    for v in 0..7 {
+        add_line(&mut sums, v, &row_of(others, v));
+    }
+    let whole = 8_386_816 * i64::from(c[0]) + 0x200_0000;
+    let high = (whole >> 26) as i32;
+    let low = (whole - 0x400_0000 * i64::from(high)) as i32;
+    let mut samples = [0; 64];
+    for k in 0..64 {
+        samples[k] = (high + ((low + sums[k]) >> 26)).min(255).max(-256) as i16;
+    }
+    samples
+}
+
+fn inverse_of_dense(c: &[i16; 64]) -> [i16; 64] {
     let mut turned = [0; 64];
     let mut high = [0; 64];
     let mut low = [0; 64];
@@ -126,6 +182,33 @@ fn of_blocks(range: u32, low: i16, transform: impl Fn(&[i16; 64]) -> [i16; 64]) 
     sum
 }
 
+fn coefficient(i: u32) -> i16 {
+    (i.wrapping_mul(2_654_435_761) % 4096) as i16 - 2048
+}
+
+fn small(i: u32) -> i16 {
+    (i.wrapping_mul(2_654_435_761) / 512 % 31) as i16 - 15
+}
+
+fn sparse_block(i: u32) -> [i16; 64] {
+    let others = [0, 0, 0, 1, 1, 2, 5, 8];
+    let mut block = [0; 64];
+    block[0] = coefficient(i);
+    block[63] = (i / 8 % 2) as i16;
+    for k in 0..others[i as usize % 8] {
+        block[8 * (k % 3) + k / 3 + 1] = small(i.wrapping_mul(8).wrapping_add(k as u32));
+    }
+    block
+}
+
+fn of_sparse_blocks() -> u64 {
+    let mut sum = 0u64;
+    for i in 0..BLOCKS {
+        sum = sum.wrapping_add(total(&inverse(&sparse_block(i))));
+    }
+    sum
+}
+
 fn timed(direction: &str, work: impl Fn() -> u64) {
     let start = Instant::now();
     let sum = work();
@@ -135,6 +218,7 @@ fn timed(direction: &str, work: impl Fn() -> u64) {
 fn main() {
     for _ in 0..SLICES {
         timed("inverse", || of_blocks(4096, 2048, inverse));
+        timed("sparse", of_sparse_blocks);
         timed("forward", || of_blocks(511, 255, forward));
     }
 }

@@ -1,8 +1,9 @@
-pub mod SumLemmas
 pub mod BasisLemmas
 pub mod TransformLemmas
 pub mod BoundLemmas
-pub mod FilledLemmas
+pub mod TurnedLemmas
 pub mod LargestLemmas
 pub mod LineLemmas
 pub mod PassLemmas
+pub mod TotalLemmas
+pub mod SparseLemmas

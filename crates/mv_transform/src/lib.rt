@@ -7,21 +7,31 @@
 #![tactic(auto)]
 
 ghost use Rattle.std.specs.Prelude.{◌≡◌, ℕ, ◌<◌};
-ghost use Rattle.mv_transform.specs.Basis.{BasisIsMirrored};
-ghost use Rattle.mv_transform.specs.Block.{entry, IsWithin};
-ghost use Rattle.mv_transform.specs.Transform.{inverse_at, forward_at, InverseIsSaturated, ForwardIsBounded, InverseOfSame, ForwardOfSame};
+ghost use Rattle.mv_terms.specs.Block.{entry, IsWithin};
+ghost use Rattle.mv_transform.specs.Transform.{inverse_at, forward_at};
 
+mod dense;
 mod double_sum;
 mod forward_lines;
 mod inverse_lines;
+mod laws;
 mod parts;
 mod passes;
 mod plain;
+mod rounding;
+mod signed;
+mod sparse;
+mod weights;
 
-use double_sum::{narrowed, rounded_sum};
-use parts::{high_parts, low_parts, rounded_parts, saturated_value};
-use passes::{forward_of_rows, inverse_of_rows, widened};
+use dense::inverse_of_dense;
+pub use laws::{
+    folded_lines_law, forward_bounded_law, inverse_saturated_law, lines_law, mirrored_basis_law,
+    same_block_law,
+};
+use passes::{forward_of_rows, widened};
 pub use plain::{plain_forward, plain_inverse};
+use rounding::{narrowed, rounded_sum};
+use sparse::{inverse_of_sparse, is_sparse, without_first};
 
 /// The inverse transform of a block of coefficients in raster order (H.262, 7.5): samples, or
 /// differences of samples, in −256 to 255. A decoder's coefficients lie in −2048 to 2047; any
@@ -29,17 +39,12 @@ pub use plain::{plain_forward, plain_inverse};
 pub fn inverse(c: &[i16; 64]) -> [i16; 64]
     ensures { (y x : ℕ) → y < 8 → x < 8 → entry result y x ≡ inverse_at (entry c.now) y x }
 {
-    let mut turned = [0; 64];
-    let mut high = [0; 64];
-    let mut low = [0; 64];
-    inverse_of_rows(c, &mut turned);
-    inverse_of_rows(&high_parts(&turned), &mut high);
-    inverse_of_rows(&low_parts(&turned), &mut low);
-    let mut samples = [0; 64];
-    for place in 0..64 {
-        samples[place] = saturated_value(rounded_parts(high[place], low[place]));
+    let others = without_first(c);
+    if is_sparse(&others) {
+        inverse_of_sparse(c, &others)
+    } else {
+        inverse_of_dense(c)
     }
-    samples
 }
 
 /// The forward transform of a block of samples, or of differences of samples, in −255 to 255, in
@@ -58,27 +63,6 @@ pub fn forward(s: &[i16; 64]) -> [i16; 64]
     }
     coefficients
 }
-
-/// The weights at two places that mirror each other are equal, but for the sign of odd frequencies.
-pub fn mirrored_basis_law()
-    ensures { BasisIsMirrored }
-{}
-
-/// The inverse transform of any block lies in −256 to 255.
-pub fn inverse_saturated_law()
-    ensures { InverseIsSaturated }
-{}
-
-/// The forward transform of samples in −255 to 255 lies in −2040 to 2040.
-pub fn forward_bounded_law()
-    ensures { ForwardIsBounded }
-{}
-
-/// Each direction depends on the 64 values of its block alone, however the block is given.
-pub fn same_block_law()
-    ensures inverse { InverseOfSame }
-    ensures forward { ForwardOfSame }
-{}
 
 #[cfg(test)]
 mod tests;
