@@ -1,10 +1,11 @@
+-- Blocks of values, level by level: the sum, the first value and the last one.
 use Rattle.std.proofs.Common.{◌≡◌, ◌≢◌, ℕ, ◌+◌, ◌*◌, ◌%◌, ◌<◌, Bool, true, false, List, ℤ, pos, negsuc, ◌+ℤ◌, ◌-ℤ◌, ◌*ℤ◌, ◌≤ℤ◌, sym, refl, ap, ◌∙◌, arith, length, get_or, set, get_or-set_other, get_or-set_same, nat_eq, cond, ◌&&◌, ⊎_elim, unsigned_abs, slice_index}
 use Rattle.std.proofs.lemmas.Bool.{cases_eq}
 use Rattle.std.proofs.lemmas.Bool.Decides.{nat_tests}
 use Rattle.std.proofs.lemmas.Int.{ints, clamps}
-use Rattle.mv_transform.specs.Block.{entry, IsSameBlock}
-use Rattle.mv_transform.specs.Sums.{sum_below}
-use Rattle.mv_transform.proofs.SumLemmas.{sum_below_same, sum_below_rows}
+use Rattle.mv_terms.specs.Block.{entry, IsSameBlock}
+use Rattle.mv_terms.specs.Sums.{sum_below}
+use Rattle.mv_terms.proofs.SumLemmas.{sum_below_same, sum_below_rows}
 use Rattle.mv_quant.specs.declared.Kind.{Kind}
 use Rattle.mv_quant.specs.Dequantised.{saturated, intra_dc_mult, scaled_level, value_of, value_sum, is_even, toggled, dequantised, ValueIsSaturated, DequantisedIsSaturated, DequantisedOfSame}
 

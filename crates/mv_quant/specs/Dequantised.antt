@@ -1,7 +1,8 @@
+-- The coefficients of a block of levels (H.262, 7.4).
 use Rattle.std.specs.Prelude.{ℕ, ◌*◌, ◌/◌, ◌%◌, ◌+◌, ◌^◌, Bool, ◌&&◌, ◌==◌, if◌then◌else◌, ℤ, pos, negsuc, ◌+ℤ◌, ◌-ℤ◌, ◌*ℤ◌, ◌≤ℤ◌, unsigned_abs, int_div, slice_index}
 use Rattle.std.specs.Int.{int_min, int_max, int_signum}
-use Rattle.mv_transform.specs.Sums.{sum_below}
-use Rattle.mv_transform.specs.Block.{IsSameBlock}
+use Rattle.mv_terms.specs.Sums.{sum_below}
+use Rattle.mv_terms.specs.Block.{IsSameBlock}
 use Rattle.mv_quant.specs.declared.Kind.{Kind}
 
 -- H.262, 7.4.3: saturation
@@ -17,11 +18,15 @@ unfoldable pub scaled_level : Bool → ℕ → ℤ → ℤ
 scaled_level intra step level =
     int_div ((pos 2 *ℤ level +ℤ (if intra then pos 0 else int_signum level)) *ℤ pos step) (pos 32)
 
+-- what a level at place k, in raster order, is a multiple of: the entry of the matrix times the scale
+abbrev pub step_at : Kind → ℕ → ℕ
+step_at kind k = slice_index kind.matrix k * kind.scale
+
 -- the dequantised value of one level at (v, u), before mismatch control
 unfoldable pub value_of : Kind → ℕ → ℕ → ℤ → ℤ
 value_of kind v u level =
     if kind.intra && ((v == 0) && (u == 0)) then saturated (intra_dc_mult kind.dc_precision *ℤ level)
-    else saturated (scaled_level kind.intra (slice_index kind.matrix (8 * v + u) * kind.scale) level)
+    else saturated (scaled_level kind.intra (step_at kind (8 * v + u)) level)
 
 abbrev pub is_even : ℤ → Bool
 is_even z = unsigned_abs z % 2 == 0
@@ -53,4 +58,5 @@ ValueIsSaturated = (kind : Kind) (v u : ℕ) (level : ℤ)
 
 -- the coefficients of a block depend on its 64 levels alone
 abbrev pub DequantisedOfSame : Type 0
-DequantisedOfSame = (kind : Kind) (QF QF' : ℕ → ℕ → ℤ) → IsSameBlock QF QF' → IsSameBlock (dequantised kind QF) (dequantised kind QF')
+DequantisedOfSame = (kind : Kind) (QF QF' : ℕ → ℕ → ℤ) → IsSameBlock QF QF'
+    → IsSameBlock (dequantised kind QF) (dequantised kind QF')

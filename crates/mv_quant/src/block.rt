@@ -2,39 +2,51 @@
 
 ghost use Rattle.std.specs.Prelude.{◌≡◌, ℕ, ◌+◌, ◌*◌, ◌/◌, ◌%◌, ◌<◌, ◌≤◌, ◌^◌, pos, ◌+ℤ◌, ◌*ℤ◌, slice_index, slice_index_or, unsigned_abs, if◌then◌else◌};
 ghost use Rattle.std.specs.Int.{int_signum};
-ghost use Rattle.mv_transform.specs.Block.{item, entry};
-ghost use Rattle.mv_transform.specs.Sums.{sum_below};
-ghost use Rattle.mv_quant.specs.Dequantised.{saturated, intra_dc_mult, scaled_level, value_of, is_even, toggled, dequantised};
+ghost use Rattle.mv_terms.specs.Block.{item, entry};
+ghost use Rattle.mv_terms.specs.Sums.{sum_below};
+ghost use Rattle.mv_quant.specs.Dequantised.{saturated, intra_dc_mult, scaled_level, step_at, value_of, is_even, toggled, dequantised};
 
 use super::Kind;
 
-// What rounds the levels of a non-intra block away from zero (H.262, 7.4.2.3).
-fn rounding(intra: bool, level: i16) -> i32
-    ensures value { result ≡ (if intra then pos 0 else int_signum level) }
-    ensures size { unsigned_abs result ≤ 1 }
+/// The coefficients that the levels of a coded block stand for (H.262, 7.4): each in −2048 to 2047, in raster
+/// order, as the levels and the matrix are. A block that isn't coded has no mismatch control and stays zero: it
+/// is not to be given to this call.
+pub fn dequantise(levels: &[i16; 64], kind: &Kind) -> [i16; 64]
+    requires scale { kind.now.scale ≤ 112 }
+    requires precision { kind.now.dc_precision ≤ 3 }
+    ensures { (v u : ℕ) → v < 8 → u < 8 → entry result v u ≡ dequantised kind.now (entry levels.now) v u }
 {
-    if intra { 0 } else { i32::from(level.signum()) }
+    let mut block = values(levels, kind);
+    if has_even(sum_of(&block)) {
+        block[63] = toggle(block[63]);
+    }
+    block
 }
 
-fn doubled(level: i16, rounding: i32) -> i32
-    requires { unsigned_abs rounding ≤ 1 }
-    ensures value { result ≡ pos 2 *ℤ level +ℤ rounding }
-    ensures size { unsigned_abs result ≤ 2 ^ 16 + 1 }
+// The values of a block's levels, before mismatch control.
+fn values(levels: &[i16; 64], kind: &Kind) -> [i16; 64]
+    requires scale { kind.now.scale ≤ 112 }
+    requires precision { kind.now.dc_precision ≤ 3 }
+    ensures { (v u : ℕ) → v < 8 → u < 8 → entry result v u ≡ value_of kind.now v u (entry levels.now v u) }
 {
-    2 * i32::from(level) + rounding
+    let mut block = scaled_levels(levels, kind);
+    if kind.intra {
+        block[0] = scaled_dc(levels[0], kind.dc_precision);
+    }
+    block
 }
 
-fn product(a: i32, b: i32) -> i32
-    requires { unsigned_abs a * unsigned_abs b < 2 ^ 31 }
-    ensures { result ≡ a *ℤ b }
+// The levels of a block, each as if it were not the first of an intra block.
+fn scaled_levels(levels: &[i16; 64], kind: &Kind) -> [i16; 64]
+    requires { kind.now.scale ≤ 112 }
+    ensures { (k : ℕ) → k < 64 → item result k ≡
+        saturated (scaled_level kind.now.intra (step_at kind.now k) (item levels.now k)) }
 {
-    a * b
-}
-
-fn saturate(value: i32) -> i16
-    ensures { result ≡ saturated value }
-{
-    value.min(2047).max(-2048) as i16
+    let mut block = [0; 64];
+    for k in 0..64 {
+        block[k] = scaled(levels[k], kind.intra, step_at(kind, k));
+    }
+    block
 }
 
 // The value of any level but the first of an intra block.
@@ -71,38 +83,42 @@ fn dc_factor(precision: u8) -> i32
 fn step_at(kind: &Kind, k: usize) -> u16
     requires scale { kind.now.scale ≤ 112 }
     requires place { k < 64 }
-    ensures value { result ≡ slice_index kind.now.matrix k * kind.now.scale }
+    ensures value { result ≡ step_at kind.now k }
     ensures size { result ≤ 28560 }
 {
     u16::from(kind.matrix[k]) * u16::from(kind.scale)
 }
 
-// The levels of a block, each as if it were not the first of an intra block.
-fn scaled_levels(levels: &[i16; 64], kind: &Kind) -> [i16; 64]
-    requires { kind.now.scale ≤ 112 }
-    ensures { (k : ℕ) → k < 64 → item result k ≡ saturated (scaled_level kind.now.intra (slice_index kind.now.matrix k * kind.now.scale) (item levels.now k)) }
+fn doubled(level: i16, rounding: i32) -> i32
+    requires { unsigned_abs rounding ≤ 1 }
+    ensures value { result ≡ pos 2 *ℤ level +ℤ rounding }
+    ensures size { unsigned_abs result ≤ 2 ^ 16 + 1 }
 {
-    let mut block = [0; 64];
-    for k in 0..64 {
-        block[k] = scaled(levels[k], kind.intra, step_at(kind, k));
-    }
-    block
+    2 * i32::from(level) + rounding
 }
 
-// The values of a block's levels, before mismatch control.
-fn values(levels: &[i16; 64], kind: &Kind) -> [i16; 64]
-    requires scale { kind.now.scale ≤ 112 }
-    requires precision { kind.now.dc_precision ≤ 3 }
-    ensures { (v u : ℕ) → v < 8 → u < 8 → entry result v u ≡ value_of kind.now v u (entry levels.now v u) }
+// What rounds the levels of a non-intra block away from zero (H.262, 7.4.2.3).
+fn rounding(intra: bool, level: i16) -> i32
+    ensures value { result ≡ (if intra then pos 0 else int_signum level) }
+    ensures size { unsigned_abs result ≤ 1 }
 {
-    let mut block = scaled_levels(levels, kind);
-    if kind.intra {
-        block[0] = scaled_dc(levels[0], kind.dc_precision);
-    }
-    block
+    if intra { 0 } else { i32::from(level.signum()) }
 }
 
-#[tactic(auto, using(mv_transform::proofs::SumLemmas::sums))]
+fn product(a: i32, b: i32) -> i32
+    requires { unsigned_abs a * unsigned_abs b < 2 ^ 31 }
+    ensures { result ≡ a *ℤ b }
+{
+    a * b
+}
+
+fn saturate(value: i32) -> i16
+    ensures { result ≡ saturated value }
+{
+    value.min(2047).max(-2048) as i16
+}
+
+#[tactic(auto, using(mv_terms::proofs::SumLemmas::sums))]
 fn sum_of(block: &[i16; 64]) -> i32
     ensures { result ≡ sum_below 64 (item block.now) }
 {
@@ -123,19 +139,4 @@ fn toggle(value: i16) -> i16
     ensures { result ≡ toggled value }
 {
     if value % 2 == 0 { value + 1 } else { value - 1 }
-}
-
-/// The coefficients that the levels of a coded block stand for (H.262, 7.4): each in −2048 to 2047, in raster
-/// order, as the levels and the matrix are. A block that isn't coded has no mismatch control and stays zero: it
-/// is not to be given to this call.
-pub fn dequantise(levels: &[i16; 64], kind: &Kind) -> [i16; 64]
-    requires scale { kind.now.scale ≤ 112 }
-    requires precision { kind.now.dc_precision ≤ 3 }
-    ensures { (v u : ℕ) → v < 8 → u < 8 → entry result v u ≡ dequantised kind.now (entry levels.now) v u }
-{
-    let mut block = values(levels, kind);
-    if has_even(sum_of(&block)) {
-        block[63] = toggle(block[63]);
-    }
-    block
 }

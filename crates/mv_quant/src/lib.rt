@@ -1,18 +1,19 @@
 //! The inverse quantiser (H.262, 7.4): what the levels of a block stand for.
 //! Its promise: `dequantise` gives the coefficients of a block as the standard defines them, one at a time, with
 //! saturation and mismatch control, and `scale_value` the scale of a code.
-//! The definitions stand in `specs/Scale.antt` and in `specs/Dequantised.antt`, where the value of one level
-//! stands alone.
+//! The definitions stand in `specs/Scale.antt`, in `specs/Dequantised.antt`, where the value of one level stands
+//! alone, and for the blocks of a macroblock in `specs/Macroblocks.antt`.
 #![tactic(auto)]
 
 ghost use Rattle.std.specs.Prelude.{◌≡◌, ◌<◌, ◌≤◌, true};
 ghost use Rattle.mv_terms.specs.Ranges.{IsScaleCode};
-ghost use Rattle.mv_quant.specs.Dequantised.{ValueIsSaturated, DequantisedIsSaturated, DequantisedOfSame};
 ghost use Rattle.mv_quant.specs.Scale.{scale_of};
 
 mod block;
+mod laws;
 
 pub use block::dequantise;
+pub use laws::{coefficients_law, same_levels_law, saturated_law};
 
 /// How the levels of a block were quantised.
 #[derive(Clone, Copy, Debug, PartialEq, Eq)]
@@ -55,17 +56,6 @@ fn non_linear_scale(code: u8) -> u8
         _ => 8 * (code - 17),
     }
 }
-
-/// The value of each level and each coefficient lies in −2048 to 2047.
-pub fn saturated_law()
-    ensures value { ValueIsSaturated }
-    ensures coefficient { DequantisedIsSaturated }
-{}
-
-/// The coefficients of a block depend on its 64 levels alone, however they are given.
-pub fn same_levels_law()
-    ensures { DequantisedOfSame }
-{}
 
 #[cfg(test)]
 mod tests;

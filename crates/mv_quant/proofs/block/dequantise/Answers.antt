@@ -1,6 +1,6 @@
 use Rattle.std.proofs.Common.{arith, ◌≡◌, true, false, rules}
 use Rattle.std.proofs.lemmas.Int.{to_z-of_z}
-use Rattle.mv_transform.specs.Block.{entry}
+use Rattle.mv_terms.specs.Block.{entry}
 use Rattle.mv_quant.specs.Dequantised.{is_even, value_sum}
 use Rattle.mv_quant.proofs.BlockLemmas.{block_sum, toggled_block, plain_block}
 use Rattle.mv_quant.proofs.block.dequantise.Goals as goal

@@ -1,7 +1,7 @@
 use Rattle.std.proofs.Common.{◌≡◌, ◌*◌, ℕ, ℤ, slice_index, arith}
 use Rattle.std.proofs.lemmas.Int.{to_z-of_z}
-use Rattle.mv_transform.specs.Block.{item}
-use Rattle.mv_transform.proofs.FilledLemmas.{filled_more}
+use Rattle.mv_terms.specs.Block.{item}
+use Rattle.mv_terms.proofs.FilledLemmas.{filled_more}
 use Rattle.mv_quant.specs.Dequantised.{saturated, scaled_level}
 use Rattle.mv_quant.proofs.block.scaled_levels.Goals as goal
 

@@ -1,6 +1,6 @@
 use Rattle.std.proofs.Common.{◌≡◌, ◌*◌, slice_index}
-use Rattle.mv_transform.specs.Block.{item}
-use Rattle.mv_transform.proofs.FilledLemmas.{AreFilled}
+use Rattle.mv_terms.specs.Block.{item}
+use Rattle.mv_terms.proofs.FilledLemmas.{AreFilled}
 use Rattle.mv_quant.specs.Dequantised.{saturated, scaled_level}
 use Rattle.mv_quant.proofs.block.scaled_levels.Given as goal
 

@@ -1,6 +1,6 @@
 use Rattle.std.proofs.Common.{◌≡◌, ◌*◌, ◌^◌, ◌≤◌, unsigned_abs}
-use Rattle.mv_transform.specs.Block.{item}
-use Rattle.mv_transform.specs.Sums.{sum_below}
+use Rattle.mv_terms.specs.Block.{item}
+use Rattle.mv_terms.specs.Sums.{sum_below}
 use Rattle.mv_quant.proofs.block.sum_of.Given as goal
 
 abbrev pub invariant-loop-k : goal.invariant-loop-k

@@ -1,5 +1,5 @@
 use Rattle.mv_quant.proofs.BlockLemmas.{value_is_saturated, dequantised_is_saturated}
-use Rattle.mv_quant.proofs.saturated_law.Goals as goal
+use Rattle.mv_quant.proofs.laws.saturated_law.Goals as goal
 
 pub returns-clause-value : goal.returns-clause-value
 returns-clause-value c = value_is_saturated
