@@ -1,4 +1,4 @@
--- One row of a plane, and how a row that was lent for writing comes back.
+-- One row of a plane, and how a row, or all samples, that were lent for writing come back.
 use Rattle.std.specs.Prelude.{ℕ, ◌+◌, List, length, take, drop, slice_range, ◌++◌}
 use Rattle.std.specs.List.{refill}
 use Rattle.std.specs.Borrow.{Lends, MutBor, Fml, u8, Array}
@@ -21,3 +21,11 @@ with_row f p y s = record f { samples = written_at f.samples (place_of f p 0 y) 
 -- the picture ends with what is left in the row
 abbrev pub LendsRow : MutBor Planes → Plane → ℕ → MutBor (List ℕ) → Fml
 LendsRow s p y r = Lends the_row (Array u8 0) s r (with_row s.now p y)
+
+-- the picture with its samples changed
+abbrev pub with_samples : Planes → List ℕ → Planes
+with_samples f s = record f { samples = written_at f.samples 0 s }
+
+-- the picture ends with what is left in the samples
+abbrev pub LendsSamples : MutBor Planes → MutBor (List ℕ) → Fml
+LendsSamples s r = Lends the_row (Array u8 0) s r (with_samples s.now)

@@ -1,3 +1,4 @@
+//! What is handed on with a picture: the two that it is predicted from, and all that it was decoded from.
 use crate::picture::Picture;
 use mv_terms::{Decision, Head, MacroLevels};
 
@@ -8,7 +9,7 @@ pub struct RefPair<'a> {
     pub backward: &'a Picture,
 }
 
-/// A picture that was decoded, with all that it was decoded from.
+/// A picture that was decoded, with all that it was decoded from. No call takes it yet.
 #[derive(Clone, Copy)]
 pub struct Coded<'a> {
     pub head: &'a Head,

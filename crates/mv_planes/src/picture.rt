@@ -1,8 +1,10 @@
+//! A picture in three planes, and what of it is lent.
 ghost use Rattle.std.specs.Prelude.{◌≡◌, ℕ, ◌+◌, ◌*◌, ◌^◌, ◌<◌, ◌≤◌, length, slice_index, slice_set, IfOk};
 ghost use Rattle.std.specs.Borrow.{sem};
 ghost use Rattle.mv_planes.specs.Planes.{before, mb_size, width_of, height_of, place_of, sample_of, grey_of, IsInside, IsWhole};
-ghost use Rattle.mv_planes.specs.Rows.{row_of, LendsRow};
+ghost use Rattle.mv_planes.specs.Rows.{row_of, LendsRow, LendsSamples};
 
+use crate::lent::{Block8, Block8Mut, FieldView};
 use mv_terms::NoMemory;
 use std::alloc::Global;
 use std::marker::Model;
@@ -56,6 +58,8 @@ impl Model for Picture {
 }
 
 impl Picture {
+    ghost use Rattle.mv_planes.specs.Lent.{read_part, read_picture, written_part, written_picture, field_of, view_picture};
+
     /// A picture of this size in macroblocks whose samples are all 128.
     pub fn grey(alloc: Global, mb_wide: u16, mb_high: u16) -> Result<Picture, NoMemory>
         ensures { IfOk result (λ p. p ≡ grey_of mb_wide mb_high) }
@@ -101,26 +105,6 @@ impl Picture {
         plane.mb_size() * self.mb_high as usize
     }
 
-    fn row_start(&self, plane: Plane, y: usize) -> usize
-        requires { y < height_of self.now plane }
-        ensures value { result ≡ place_of self.now plane 0 y }
-        ensures inside { result + width_of self.now plane ≤ length self.now.samples }
-        ensures short { length self.now.samples < 2 ^ 64 }
-    {
-        let _samples = &self.samples;
-        let macroblocks = self.mb_wide as usize * self.mb_high as usize;
-        plane.before() * macroblocks + y * self.width(plane)
-    }
-
-    pub(crate) fn place(&self, plane: Plane, x: usize, y: usize) -> usize
-        requires { IsInside self.now plane x y }
-        ensures value { result ≡ place_of self.now plane x y }
-        ensures inside { result < length self.now.samples }
-        ensures short { length self.now.samples < 2 ^ 64 }
-    {
-        self.row_start(plane, y) + x
-    }
-
     /// The sample at column x of row y, inside the plane.
     pub fn sample(&self, plane: Plane, x: usize, y: usize) -> u8
         requires { IsInside self.now plane x y }
@@ -135,6 +119,14 @@ impl Picture {
         ensures { result.now ≡ self.now.samples }
     {
         &self.samples
+    }
+
+    /// All samples, in the same order, lent for writing.
+    pub fn samples_mut(&mut self) -> &mut [u8]
+        ensures* writes_back { sem 𝓛 (LendsSamples self.entry result) }
+        ensures value { result.now ≡ self.old.samples }
+    {
+        &mut self.samples
     }
 
     /// Row y of the plane.
@@ -156,6 +148,93 @@ impl Picture {
         let start = self.row_start(plane, y);
         let width = self.width(plane);
         self.samples.slice_mut(start..start + width)
+    }
+
+    /// The 8x8 part of the plane whose first sample is at column x of row y, with rows y, y + step, ..,
+    /// inside the plane. The step is 1, or 2 for the lines of one field.
+    pub fn block8(&self, plane: Plane, x: usize, y: usize, step: usize) -> Block8<'_>
+        requires { IsInside self.now plane (x + 7) (y + 7 * step) }
+        ensures picture { read_picture result ≡ self.now }
+        ensures part { read_part result ≡ record { plane = plane; x = x; y = y; step = step } }
+    {
+        let (at, stride) = self.block8_places(plane, x, y, step);
+        Block8 {
+            pic: self,
+            plane,
+            x,
+            y,
+            step,
+            at,
+            stride,
+        }
+    }
+
+    /// The same part, lent for writing.
+    pub fn block8_mut(&mut self, plane: Plane, x: usize, y: usize, step: usize) -> Block8Mut<'_>
+        requires { IsInside self.old plane (x + 7) (y + 7 * step) }
+        ensures same_reference { result.pic.ghost_name ≡ self.entry.ghost_name }
+        ensures picture { written_picture result ≡ self.old }
+        ensures part { written_part result ≡ record { plane = plane; x = x; y = y; step = step } }
+    {
+        let (at, stride) = self.block8_places(plane, x, y, step);
+        Block8Mut {
+            pic: self,
+            plane,
+            x,
+            y,
+            step,
+            at,
+            stride,
+        }
+    }
+
+    /// The lines of the top or the bottom field of the plane (H.262, 6.1.1.3).
+    pub fn field_view(&self, plane: Plane, bottom: bool) -> FieldView<'_>
+        ensures picture { view_picture result ≡ self.now }
+        ensures field { field_of result ≡ record { plane = plane; bottom = bottom } }
+    {
+        FieldView {
+            pic: self,
+            plane,
+            bottom,
+        }
+    }
+
+    fn row_start(&self, plane: Plane, y: usize) -> usize
+        requires { y < height_of self.now plane }
+        ensures value { result ≡ place_of self.now plane 0 y }
+        ensures inside { result + width_of self.now plane ≤ length self.now.samples }
+        ensures short { length self.now.samples < 2 ^ 64 }
+    {
+        // for the proof: the picture is whole, and its list is short
+        let _samples = &self.samples;
+        let macroblocks = self.mb_wide as usize * self.mb_high as usize;
+        plane.before() * macroblocks + y * self.width(plane)
+    }
+
+    pub(crate) fn place(&self, plane: Plane, x: usize, y: usize) -> usize
+        requires { IsInside self.now plane x y }
+        ensures value { result ≡ place_of self.now plane x y }
+        ensures inside { result < length self.now.samples }
+        ensures short { length self.now.samples < 2 ^ 64 }
+    {
+        self.row_start(plane, y) + x
+    }
+
+    /// Where the part's first sample stands in the list, and how far its rows lie apart there.
+    fn block8_places(&self, plane: Plane, x: usize, y: usize, step: usize) -> (usize, usize)
+        requires { IsInside self.now plane (x + 7) (y + 7 * step) }
+        ensures at { result.0 ≡ place_of self.now plane x y }
+        ensures stride { result.1 ≡ step * width_of self.now plane }
+        ensures inside { result.0 + 7 * result.1 + 7 < length self.now.samples }
+        ensures short { length self.now.samples < 2 ^ 64 }
+    {
+        // for the proof: the last row is a small number
+        let _height = self.height(plane);
+        let width = self.width(plane);
+        // for the proof: the last sample too has a place in the list
+        let _last = self.place(plane, x + 7, y + 7 * step);
+        (self.place(plane, x, y), step * width)
     }
 
     pub(crate) fn at(&self, place: usize) -> u8
