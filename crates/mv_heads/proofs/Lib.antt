@@ -3,3 +3,5 @@ mod ElementLemmas
 mod PartLemmas
 mod SequenceLemmas
 mod StateLemmas
+pub mod FirstSizeLaws
+pub mod TurnLaws

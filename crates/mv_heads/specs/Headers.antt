@@ -6,14 +6,15 @@ use Rattle.mv_terms.specs.declared.head.PicType.{PicType}
 use Rattle.mv_terms.specs.declared.head.PicType.TheVariants.{I, P, B}
 use Rattle.mv_terms.specs.declared.head.Context.{Context}
 use Rattle.mv_terms.specs.declared.head.Matrices.{Matrices}
+use Rattle.mv_terms.specs.Matrices.{default_matrices}
+use Rattle.mv_terms.specs.Unsupported as unsupported
 use Rattle.mv_terms.specs.Ranges.{has_forward, has_backward, macroblock_columns, macroblock_rows}
 use Rattle.mv_bits.specs.Reader.{Reader, ◌>>=◌, ◌>>◌, done, field, skip, need, check, end}
-use Rattle.mv_heads.specs.declared.sequence.SequenceHeader.{SequenceHeader}
-use Rattle.mv_heads.specs.declared.sequence.CodedSize.{CodedSize}
-use Rattle.mv_heads.specs.declared.picture.PictureHeader.{PictureHeader}
-use Rattle.mv_heads.specs.declared.picture.PictureCoding.{PictureCoding}
-use Rattle.mv_heads.specs.declared.matrices.TheConstants.{DEFAULT_INTRA, DEFAULT_NON_INTRA}
-use Rattle.mv_heads.specs.Matrices.{matrix, has_no_zero}
+use Rattle.mv_heads.specs.declared.sequence_header.SequenceHeader.{SequenceHeader}
+use Rattle.mv_heads.specs.declared.sequence_header.CodedSize.{CodedSize}
+use Rattle.mv_heads.specs.declared.picture_header.PictureHeader.{PictureHeader}
+use Rattle.mv_heads.specs.declared.picture_coding.PictureCoding.{PictureCoding}
+use Rattle.mv_heads.specs.SentMatrices.{matrix, has_no_zero}
 
 -- The sequence header (H.262, 6.2.2.1).
 unfoldable pub sequence_header : Reader Why SequenceHeader
@@ -26,8 +27,8 @@ sequence_header = do
   marker ← field 1
   skip 10  -- vbv_buffer_size_value
   skip 1  -- constrained_parameters_flag
-  intra ← matrix DEFAULT_INTRA
-  non_intra ← matrix DEFAULT_NON_INTRA
+  intra ← matrix default_matrices.intra
+  non_intra ← matrix default_matrices.non_intra
   check (nat_le 1 rate_code && nat_le rate_code 8) BadHead
   check (marker == 1) BadHead
   check (has_no_zero intra && has_no_zero non_intra) BadHead
@@ -75,9 +76,9 @@ sequence_extension first header = do
   let height = header.height + 4096 * height_extension
   check (marker == 1) BadHead
   end BadHead
-  check (chroma_format == 1) (Unsupported 1)
+  check (chroma_format == 1) (Unsupported unsupported.chroma_format)
   check (nat_lt 0 width && nat_lt 0 height) BadHead
-  check (nat_le width 1920 && nat_le height 1152) (Unsupported 3)
+  check (nat_le width 1920 && nat_le height 1152) (Unsupported unsupported.size)
   let context : Context = record {
     width = width;
     height = height;
@@ -99,7 +100,7 @@ picture_type type =
     if type == 1 then Ok I
     else if type == 2 then Ok P
     else if type == 3 then Ok B
-    else if type == 4 then Err (Unsupported 6)
+    else if type == 4 then Err (Unsupported unsupported.d_picture)
     else Err BadHead
 
 -- the bits of the fields full_pel_forward_vector and forward_f_code in P and B, and of the backward ones in B
@@ -141,7 +142,7 @@ unfoldable pub frame_structure : ℕ → Result (Unit {0}) Why
 frame_structure structure =
     if structure == 3 then Ok tt
     else if structure == 0 then Err BadHead
-    else Err (Unsupported 4)
+    else Err (Unsupported unsupported.field_picture)
 
 -- v_axis 1, field_sequence 3, sub_carrier 1, burst_amplitude 7 and sub_carrier_phase 8, where they are sent
 unfoldable pub composite_bits : ℕ → ℕ

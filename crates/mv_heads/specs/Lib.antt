@@ -1,5 +1,5 @@
-pub mod Matrices
+pub mod SentMatrices
 pub mod Headers
-pub mod Parts
-pub mod Units
+pub mod HeadElements
+pub mod HeadsInTurn
 pub mod Legal

@@ -1,7 +1,7 @@
 //! Headers that encoders wrote, and refusals.
 
 use super::*;
-use mv_terms::{Context, Head, Matrices, PicType, UnitParts, Why};
+use mv_terms::{Context, Head, Matrices, PicType, UnitParts, Why, unsupported};
 use std::alloc::{AllocError, Global};
 use std::test::Fail;
 
@@ -118,10 +118,7 @@ fn reads_the_sequence_part_of_the_example(rt: HostRuntime) {
         rate_code: 3,
         rate_n: 0,
         rate_d: 0,
-        matrices: Matrices {
-            intra: DEFAULT_INTRA,
-            non_intra: [16; 64],
-        },
+        matrices: Matrices::DEFAULT,
     };
     assert_eq!(rt; read_context(PART), Ok(context));
 }
@@ -247,8 +244,8 @@ fn a_sequence_part_is_refused_at_its_first_offence(rt: HostRuntime) -> Result<()
             (7, 0x19, Why::BadHead),
             (10, 0xC3, Why::BadHead),
             (15, 0xB2, Why::BadHead),
-            (17, 0x8C, Why::Unsupported(1)),
-            (18, 0x80, Why::Unsupported(3)),
+            (17, 0x8C, Why::Unsupported(unsupported::CHROMA_FORMAT)),
+            (18, 0x80, Why::Unsupported(unsupported::SIZE)),
             (19, 0x00, Why::BadHead),
         ],
     )?;
@@ -287,7 +284,7 @@ fn a_sequence_part_is_refused_at_its_first_offence(rt: HostRuntime) -> Result<()
         ),
         (
             b"\x00\x00\x01\xB3\x06\x00\x40\x13\xFF\xFF\xE3\x80\x00\x00\x01\xB5\x14\x8A\x00\x01\x00\x00\x00\x00\x01\xB5\x50",
-            Why::Unsupported(2),
+            Why::Unsupported(unsupported::SCALABLE_EXTENSION),
         ),
         // A bit behind before 4:2:2, 4:2:2 before a width above 1920, no height before such a width.
         (
@@ -296,7 +293,7 @@ fn a_sequence_part_is_refused_at_its_first_offence(rt: HostRuntime) -> Result<()
         ),
         (
             b"\x00\x00\x01\xB3\x06\x00\x40\x13\xFF\xFF\xE3\x80\x00\x00\x01\xB5\x14\x8C\x80\x01\x00\x00",
-            Why::Unsupported(1),
+            Why::Unsupported(unsupported::CHROMA_FORMAT),
         ),
         (
             b"\x00\x00\x01\xB3\x06\x00\x00\x13\xFF\xFF\xE3\x80\x00\x00\x01\xB5\x14\x8A\x80\x01\x00\x00",
@@ -315,7 +312,7 @@ fn a_head_is_refused_at_its_first_offence(rt: HostRuntime) -> Result<(), Fail> {
         rt.alloc(),
         &[
             (5, 0x07, Why::BadHead),
-            (5, 0x27, Why::Unsupported(6)),
+            (5, 0x27, Why::Unsupported(unsupported::D_PICTURE)),
             (5, 0x2F, Why::BadHead),
             (5, 0x37, Why::BadHead),
             (5, 0x3F, Why::BadHead),
@@ -323,8 +320,8 @@ fn a_head_is_refused_at_its_first_offence(rt: HostRuntime) -> Result<(), Fail> {
             (11, 0xB2, Why::BadHead),
             (12, 0x7F, Why::BadHead),
             (14, 0xF0, Why::BadHead),
-            (14, 0xF1, Why::Unsupported(4)),
-            (14, 0xF2, Why::Unsupported(4)),
+            (14, 0xF1, Why::Unsupported(unsupported::FIELD_PICTURE)),
+            (14, 0xF2, Why::Unsupported(unsupported::FIELD_PICTURE)),
             (15, 0x61, Why::BadHead),
             (16, 0x81, Why::BadHead),
         ],
@@ -346,7 +343,7 @@ fn a_head_is_refused_at_its_first_offence(rt: HostRuntime) -> Result<(), Fail> {
         // A D picture before a bit behind its header, an f_code of 0 before a field, a field before a bit behind.
         (
             b"\x00\x00\x01\x00\x00\x27\xFF\xF9\x00\x00\x01\xB5\x8F\xFF\xF3\x41\x80",
-            Why::Unsupported(6),
+            Why::Unsupported(unsupported::D_PICTURE),
         ),
         (
             b"\x00\x00\x01\x00\x00\x57\xFF\xFB\x80\x00\x00\x01\xB5\x80\x1F\xF1\x41\x80",
@@ -354,7 +351,7 @@ fn a_head_is_refused_at_its_first_offence(rt: HostRuntime) -> Result<(), Fail> {
         ),
         (
             b"\x00\x00\x01\x00\x00\x57\xFF\xFB\x80\x00\x00\x01\xB5\x81\x1F\xF1\x41\x81",
-            Why::Unsupported(4),
+            Why::Unsupported(unsupported::FIELD_PICTURE),
         ),
     ]);
     assert_eq!(rt; heads, None);
@@ -372,11 +369,11 @@ fn a_further_extension_is_refused_at_its_first_offence(rt: HostRuntime) {
         ),
         (
             b"\x00\x00\x01\x00\x00\x0F\xFF\xF8\x00\x00\x01\xB5\x8F\xFF\xF3\x41\x80\x00\x00\x01\xB5\x90",
-            Why::Unsupported(2),
+            Why::Unsupported(unsupported::SCALABLE_EXTENSION),
         ),
         (
             b"\x00\x00\x01\x00\x00\x0F\xFF\xF8\x00\x00\x01\xB5\x8F\xFF\xF3\x41\x80\x00\x00\x01\xB5\xA0",
-            Why::Unsupported(2),
+            Why::Unsupported(unsupported::SCALABLE_EXTENSION),
         ),
         (
             b"\x00\x00\x01\x00\x00\x0F\xFF\xF8\x00\x00\x01\xB5\x8F\xFF\xF3\x41\x80\x00\x00\x01\xB5\x38",
@@ -408,6 +405,18 @@ fn the_sequence_part_of_a_prefix_is_found_behind_zeros(rt: HostRuntime) -> Resul
     )?;
     assert_eq!(rt; sequence_part(&prefix), Some((2, 30)));
     assert_eq!(rt; sequence_part(GROUP), None);
+    Ok(())
+}
+
+#[test]
+fn a_prefix_has_a_sequence_part_or_a_group_and_nothing_else(rt: HostRuntime) -> Result<(), Fail> {
+    let alloc = rt.alloc();
+    let both = join(alloc, &join(alloc, PART, USER_DATA)?, GROUP)?;
+    assert!(rt; is_prefix(&both));
+    assert!(rt; is_prefix(&join(alloc, &[0, 0], GROUP)?));
+    assert!(rt; !is_prefix(&[0, 0]));
+    assert!(rt; !is_prefix(&join(alloc, GROUP, PART)?));
+    assert!(rt; !is_prefix(&join(alloc, PART, HEAD)?));
     Ok(())
 }
 
@@ -446,7 +455,7 @@ fn a_refused_unit_leaves_the_state_as_it_was(rt: HostRuntime) {
             (
                 b"\x00\x00\x01\xB3\x06\x00\x40\x13\xFF\xFF\xE3\x80\x00\x00\x01\xB5\x14\x8A\x80\x01\x00\x00",
                 REFUSED,
-                Some(Why::Unsupported(3)),
+                Some(Why::Unsupported(unsupported::SIZE)),
             ),
         ],
     );
@@ -463,8 +472,22 @@ fn a_matrix_extension_is_in_force_until_the_next_sequence_part(rt: HostRuntime) 
         None
     );
     assert!(rt; state.extended());
+    assert!(rt; extends(EXTENDED) && !extends(P_HEAD));
     assert_eq!(rt; wrong_unit(&mut state, &[(PART, HEAD, None)]), None);
     assert!(rt; !state.extended());
+}
+
+#[test]
+fn a_copy_puts_the_state_back(rt: HostRuntime) {
+    let mut state = HeadState::new();
+    let before = state;
+    assert_eq!(rt; wrong_unit(&mut state, &[(PART, HEAD, None)]), None);
+    assert!(rt; state.context().is_some());
+    state = before;
+    assert_eq!(rt;
+        wrong_unit(&mut state, &[(GROUP, HEAD, Some(Why::BadOrder))]),
+        None
+    );
 }
 
 #[test]
