@@ -1,4 +1,4 @@
-pub mod ScanLaws
+pub mod RasterLaws
 pub mod BlockLaws
 pub mod OutcomeLaws
 mod DcLemmas

@@ -6,7 +6,7 @@ use Rattle.std.proofs.lemmas.List.FromFn.{get_or-range_with_len}
 use Rattle.std.proofs.lemmas.Int.{ints}
 use Rattle.std.specs.Int.Signed.{mag}
 use Rattle.mv_blocks.specs.declared.block.Pair.{Pair}
-use Rattle.mv_blocks.specs.Scans.{raster_place}
+use Rattle.mv_terms.specs.Scans.{raster_place}
 use Rattle.mv_blocks.specs.Blocks.{pair, pairs_in, pairs_of, in_scan, first_place}
 
 pairs_in-zero : (run : ℕ) (v : ℤ) (vs : List ℤ) → v ≡ pos 0 → pairs_in run (v ∷ vs) ≡ pairs_in (run + 1) vs

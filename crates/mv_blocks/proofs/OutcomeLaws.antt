@@ -14,7 +14,7 @@ use Rattle.mv_codes.specs.Sizes.{dc_size_codes}
 use Rattle.mv_codes.proofs.TableLaws.{some_code}
 use Rattle.mv_blocks.specs.declared.block.BlockCode.{BlockCode}
 use Rattle.mv_blocks.specs.declared.block.Pair.{Pair}
-use Rattle.mv_blocks.specs.Scans.{in_raster}
+use Rattle.mv_blocks.specs.Raster.{in_raster}
 use Rattle.mv_blocks.specs.Blocks.{At, StepsPair, StopsBlock, EndsBlock, Next, Coefficient, Escaped, Behind, IsInside, IsForbidden, signed_12, pair, codes_at, DcLevel, IsDcLevel, dct_diff, Pairs, BlockBy, Block, level_at, intra_level_at}
 use Rattle.mv_blocks.proofs.BlockLaws.{one_block}
 
@@ -60,70 +60,70 @@ some_escaped =
     (some_field 12))
     (some_field 6)
 
-some_behind : (code : Coef) → HasSome (Behind code)
+some_behind : (first : Coef) → HasSome (Behind first)
 some_behind coef.End = some_given None
 some_behind coef.Escape = some_escaped
 some_behind (coef.Pair run level) = some_given (Some (pair run level))
 
-module _ (kind : BlockCode) where
-  some_coefficient : (place : ℕ) → HasSome (Coefficient kind place)
-  some_coefficient place = some_after (CodeOf (codes_at kind place) BadCode) Behind some_behind (some_code (codes_at kind place) BadCode)
+module _ (code : BlockCode) where
+  some_coefficient : (place : ℕ) → HasSome (Coefficient code place)
+  some_coefficient place = some_after (CodeOf (codes_at code place) BadCode) Behind some_behind (some_code (codes_at code place) BadCode)
 
-  some_next : (place : ℕ) → HasSome (Next kind place)
+  some_next : (place : ℕ) → HasSome (Next code place)
   some_next place =
-      some_after (Coefficient kind place) _ (λ found.
+      some_after (Coefficient code place) _ (λ found.
       some_after (Demands (IsInside place found) BadBlock) _ (λ inside. some_given found)
       (some_demand (IsInside place found) BadBlock (inside_or_not place found)))
       (some_coefficient place)
 
-  next_inside : (place : ℕ) (bits : List Bool) (p : Pair) (rest : List Bool) → Next kind place bits (Ok (Some p, rest)) → place + p.run < 64
-  next_inside place bits p rest (inl (found, more, code, inl (held, left, demand, gives))) =
+  next_inside : (place : ℕ) (bits : List Bool) (p : Pair) (rest : List Bool) → Next code place bits (Ok (Some p, rest)) → place + p.run < 64
+  next_inside place bits p rest (inl (found, more, first, inl (held, left, demand, gives))) =
       subst (λ (x : Option Pair). IsInside place x) (sym (ap (λ (x : Option Pair × List Bool). x.0) (ok_same _ _ gives))) demand.0
-  next_inside place bits p rest (inl (found, more, code, inr (why, demand, gives))) = absurd (ok_not_err _ _ gives)
-  next_inside place bits p rest (inr (why, code, gives)) = absurd (ok_not_err _ _ gives)
+  next_inside place bits p rest (inl (found, more, first, inr (why, demand, gives))) = absurd (ok_not_err _ _ gives)
+  next_inside place bits p rest (inr (why, first, gives)) = absurd (ok_not_err _ _ gives)
 
   abbrev Ended : ℕ → List Bool → Type 0
-  Ended place bits = (ps : List Pair) × (o : Result (List Bool) Why) × EndsBlock kind place bits ps o
+  Ended place bits = (ps : List Pair) × (o : Result (List Bool) Why) × EndsBlock code place bits ps o
 
   abbrev at : ℕ → List Bool → At
   at place bits = record { place = place; bits = bits }
 
-  ended_after : (place : ℕ) (bits : List Bool) (o : Result (Option Pair × List Bool) Why) → Next kind place bits o → ((p : Pair) (rest : List Bool) → place + p.run < 64 → Ended (place + p.run + 1) rest) → Ended place bits
-  ended_after place bits (Ok (None, rest)) h more = ([], Ok rest, Ends-none (StepsPair kind) (StopsBlock kind) (at place bits) (Ok rest) h)
+  ended_after : (place : ℕ) (bits : List Bool) (o : Result (Option Pair × List Bool) Why) → Next code place bits o → ((p : Pair) (rest : List Bool) → place + p.run < 64 → Ended (place + p.run + 1) rest) → Ended place bits
+  ended_after place bits (Ok (None, rest)) h more = ([], Ok rest, Ends-none (StepsPair code) (StopsBlock code) (at place bits) (Ok rest) h)
   ended_after place bits (Ok (Some p, rest)) h more =
       let q = more p rest (next_inside place bits p rest h) in
-      (p ∷ q.0, q.1, Ends-cons (StepsPair kind) (StopsBlock kind) p q.0 (at place bits) (at (place + p.run + 1) rest) q.1 (record { is_next = h; next = refl }) q.2)
-  ended_after place bits (Err why) h more = ([], Err why, Ends-none (StepsPair kind) (StopsBlock kind) (at place bits) (Err why) h)
+      (p ∷ q.0, q.1, Ends-cons (StepsPair code) (StopsBlock code) p q.0 (at place bits) (at (place + p.run + 1) rest) q.1 (record { is_next = h; next = refl }) q.2)
+  ended_after place bits (Err why) h more = ([], Err why, Ends-none (StepsPair code) (StopsBlock code) (at place bits) (Err why) h)
 
   ended : (places place : ℕ) (bits : List Bool) → 64 ≤ place + places → Ended place bits
   ended zero place bits h = let q = some_next place bits in ended_after place bits q.0 q.1 (λ p rest inside. absurd (omega arith))
   ended (suc places) place bits h = let q = some_next place bits in ended_after place bits q.0 q.1 (λ p rest inside. ended places (place + p.run + 1) rest (omega arith))
 
-  pairs_outcome : (start : ℕ) (bits : List Bool) → Ended start bits → (o : Result (List Pair × List Bool) Why) × Pairs kind start bits o
+  pairs_outcome : (start : ℕ) (bits : List Bool) → Ended start bits → (o : Result (List Pair × List Bool) Why) × Pairs code start bits o
   pairs_outcome start bits (ps, Ok rest, h) = (Ok (ps, rest), h)
   pairs_outcome start bits (ps, Err why, h) = (Err why, (ps, h))
 
-  some_pairs : (start : ℕ) → HasSome (Pairs kind start)
+  some_pairs : (start : ℕ) → HasSome (Pairs code start)
   some_pairs start bits = pairs_outcome start bits (ended 64 start bits (omega arith))
 
-  some_dc_level : (predictor : ℤ) → HasSome (DcLevel kind predictor)
+  some_dc_level : (predictor : ℤ) → HasSome (DcLevel code predictor)
   some_dc_level predictor =
-      some_after (CodeOf (dc_size_codes kind.luma) BadCode) _ (λ size.
+      some_after (CodeOf (dc_size_codes code.luma) BadCode) _ (λ size.
       some_after (Field size) _ (λ differential.
-      some_after (Demands (IsDcLevel kind.dc_precision (predictor +ℤ dct_diff size differential)) BadBlock) _ (λ inside. some_given (predictor +ℤ dct_diff size differential))
-      (some_demand (IsDcLevel kind.dc_precision (predictor +ℤ dct_diff size differential)) BadBlock (dc_or_not kind.dc_precision (predictor +ℤ dct_diff size differential))))
+      some_after (Demands (IsDcLevel code.dc_precision (predictor +ℤ dct_diff size differential)) BadBlock) _ (λ inside. some_given (predictor +ℤ dct_diff size differential))
+      (some_demand (IsDcLevel code.dc_precision (predictor +ℤ dct_diff size differential)) BadBlock (dc_or_not code.dc_precision (predictor +ℤ dct_diff size differential))))
       (some_field size))
-      (some_code (dc_size_codes kind.luma) BadCode)
+      (some_code (dc_size_codes code.luma) BadCode)
 
-  some_by : (intra : Bool) (predictor : ℤ) → HasSome (BlockBy intra kind predictor)
+  some_by : (intra : Bool) (predictor : ℤ) → HasSome (BlockBy intra code predictor)
   some_by true predictor =
-      some_after (DcLevel kind predictor) _ (λ dc.
-      some_after (Pairs kind 1) _ (λ pairs. some_given (in_raster kind.alternate (intra_level_at dc pairs))) (some_pairs 1))
+      some_after (DcLevel code predictor) _ (λ dc.
+      some_after (Pairs code 1) _ (λ pairs. some_given (in_raster code.alternate (intra_level_at dc pairs))) (some_pairs 1))
       (some_dc_level predictor)
-  some_by false predictor = some_after (Pairs kind 0) _ (λ pairs. some_given (in_raster kind.alternate (level_at 0 pairs))) (some_pairs 0)
+  some_by false predictor = some_after (Pairs code 0) _ (λ pairs. some_given (in_raster code.alternate (level_at 0 pairs))) (some_pairs 0)
 
   -- exactly one outcome holds: the levels of a block and the bits behind it, or a first refusal
-  pub one_outcome : (predictor : ℤ) (bits : List Bool) → (o : Result (List ℤ × List Bool) Why) × Block kind predictor bits o × ((p : Result (List ℤ × List Bool) Why) → Block kind predictor bits p → p ≡ o)
+  pub one_outcome : (predictor : ℤ) (bits : List Bool) → (o : Result (List ℤ × List Bool) Why) × Block code predictor bits o × ((p : Result (List ℤ × List Bool) Why) → Block code predictor bits p → p ≡ o)
   one_outcome predictor bits =
-      let q = some_by kind.intra predictor bits in
-      (q.0, q.1, λ p h. one_block kind predictor bits p q.0 h q.1)
+      let q = some_by code.intra predictor bits in
+      (q.0, q.1, λ p h. one_block code predictor bits p q.0 h q.1)

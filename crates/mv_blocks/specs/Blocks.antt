@@ -13,12 +13,14 @@ use Rattle.mv_codes.specs.Sizes.{dc_size_codes}
 use Rattle.mv_codes.specs.Coefficients.{coef_codes}
 use Rattle.mv_blocks.specs.declared.block.BlockCode.{BlockCode}
 use Rattle.mv_blocks.specs.declared.block.Pair.{Pair}
-use Rattle.mv_blocks.specs.Scans.{in_raster, raster_place}
+use Rattle.mv_terms.specs.Scans.{raster_place}
+use Rattle.mv_blocks.specs.Raster.{in_raster}
 
 -- H.262, 7.2.1: dct_diff of dct_dc_size and dct_dc_differential, with half_range 2 ^ n for the size n + 1
 abbrev pub dct_diff : ℕ → ℕ → ℤ
 dct_diff zero differential = pos 0
-dct_diff (suc n) differential = if nat_lt differential (2 ^ n) then (pos (differential + 1) -ℤ pos (2 * 2 ^ n)) else pos differential
+dct_diff (suc n) differential =
+    if nat_lt differential (2 ^ n) then (pos (differential + 1) -ℤ pos (2 * 2 ^ n)) else pos differential
 
 -- the DC levels of a precision (H.262, 7.2.1)
 abbrev pub IsDcLevel : ℕ → ℤ → Type 0
@@ -26,15 +28,15 @@ IsDcLevel precision level = (pos 0 ≤ℤ level) × (level <ℤ pos (2 ^ (8 + pr
 
 -- the DC level of an intra block: the predictor and a difference from it
 abbrev pub DcLevel : BlockCode → ℤ → List Bool → Result (ℤ × List Bool) Why → Type 0
-DcLevel kind predictor = do
-  size ← CodeOf (dc_size_codes kind.luma) BadCode
+DcLevel code predictor = do
+  size ← CodeOf (dc_size_codes code.luma) BadCode
   differential ← Field size
-  inside ← Demands (IsDcLevel kind.dc_precision (predictor +ℤ dct_diff size differential)) BadBlock
+  inside ← Demands (IsDcLevel code.dc_precision (predictor +ℤ dct_diff size differential)) BadBlock
   Gives (predictor +ℤ dct_diff size differential)
 
 -- the codes of the coefficient at a place of the scan (H.262, 7.2.2.1 and Table 7-3)
 abbrev pub codes_at : BlockCode → ℕ → List (Code Coef)
-codes_at kind place = coef_codes (kind.intra && kind.table_15) (not kind.intra && (place == 0))
+codes_at code place = coef_codes (code.intra && code.table_15) (not code.intra && (place == 0))
 
 -- a number of 12 bits in two's complement
 abbrev pub signed_12 : ℕ → ℤ
@@ -63,9 +65,9 @@ Behind (coef.Pair run level) = Gives (Some (pair run level))
 
 -- the run and level that begin the bits, or none where they begin with the end of the block (H.262, 7.2.2)
 abbrev pub Coefficient : BlockCode → ℕ → List Bool → Result (Option Pair × List Bool) Why → Type 0
-Coefficient kind place = do
-  code ← CodeOf (codes_at kind place) BadCode
-  Behind code
+Coefficient code place = do
+  first ← CodeOf (codes_at code place) BadCode
+  Behind first
 
 -- a coefficient at this place or behind it is in the block
 abbrev pub IsInside : ℕ → Option Pair → Type 0
@@ -74,8 +76,8 @@ IsInside place (Some p) = place + p.run < 64
 
 -- the next run and level from a place of the scan on, or none at the end
 abbrev pub Next : BlockCode → ℕ → List Bool → Result (Option Pair × List Bool) Why → Type 0
-Next kind place = do
-  found ← Coefficient kind place
+Next code place = do
+  found ← Coefficient code place
   inside ← Demands (IsInside place found) BadBlock
   Gives found
 
@@ -85,23 +87,24 @@ pub record At : Type 0 where
   pub bits : List Bool
 
 -- one run and level read
-pub record StepsPair (kind : BlockCode) (s : At) (p : Pair) (t : At) : Type 0 where
-  pub is_next : Next kind s.place s.bits (Ok (Some p, t.bits))
+pub record StepsPair (code : BlockCode) (s : At) (p : Pair) (t : At) : Type 0 where
+  pub is_next : Next code s.place s.bits (Ok (Some p, t.bits))
   pub next : t.place ≡ s.place + p.run + 1
 
 -- what ends a block: its end, with the bits behind it, or a refusal
 abbrev pub StopsBlock : BlockCode → At → Result (List Bool) Why → Type 0
-StopsBlock kind s (Ok rest) = Next kind s.place s.bits (Ok (None, rest))
-StopsBlock kind s (Err why) = Next kind s.place s.bits (Err why)
+StopsBlock code s (Ok rest) = Next code s.place s.bits (Ok (None, rest))
+StopsBlock code s (Err why) = Next code s.place s.bits (Err why)
 
 -- these runs and levels from a place of the scan on, and then the end of the block or a refusal
 abbrev pub EndsBlock : BlockCode → ℕ → List Bool → List Pair → Result (List Bool) Why → Type 0
-EndsBlock kind start bits pairs outcome = Ends (StepsPair kind) (StopsBlock kind) (record { place = start; bits = bits }) pairs outcome
+EndsBlock code start bits pairs outcome =
+    Ends (StepsPair code) (StopsBlock code) (record { place = start; bits = bits }) pairs outcome
 
 -- runs and levels from a place of the scan on, up to the end of the block
 abbrev pub Pairs : BlockCode → ℕ → List Bool → Result (List Pair × List Bool) Why → Type 0
-Pairs kind start bits (Ok (pairs, rest)) = EndsBlock kind start bits pairs (Ok rest)
-Pairs kind start bits (Err why) = (pairs : List Pair) × EndsBlock kind start bits pairs (Err why)
+Pairs code start bits (Ok (pairs, rest)) = EndsBlock code start bits pairs (Ok rest)
+Pairs code start bits (Err why) = (pairs : List Pair) × EndsBlock code start bits pairs (Err why)
 
 -- QFS[k]: the level at a place of the scan, from these runs and levels at a place and behind it (H.262, 7.2.2)
 abbrev pub level_at : ℕ → List Pair → ℕ → ℤ
@@ -114,49 +117,51 @@ intra_level_at dc pairs k = if k == 0 then dc else level_at 1 pairs k
 
 -- an intra block: its 64 levels in raster order
 abbrev pub IntraBlock : BlockCode → ℤ → List Bool → Result (List ℤ × List Bool) Why → Type 0
-IntraBlock kind predictor = do
-  dc ← DcLevel kind predictor
-  pairs ← Pairs kind 1
-  Gives (in_raster kind.alternate (intra_level_at dc pairs))
+IntraBlock code predictor = do
+  dc ← DcLevel code predictor
+  pairs ← Pairs code 1
+  Gives (in_raster code.alternate (intra_level_at dc pairs))
 
 -- a block that isn't intra: its 64 levels in raster order
 abbrev pub NonIntraBlock : BlockCode → List Bool → Result (List ℤ × List Bool) Why → Type 0
-NonIntraBlock kind = do
-  pairs ← Pairs kind 0
-  Gives (in_raster kind.alternate (level_at 0 pairs))
+NonIntraBlock code = do
+  pairs ← Pairs code 0
+  Gives (in_raster code.alternate (level_at 0 pairs))
 
 -- a block of an intra macroblock, or of another
 abbrev pub BlockBy : Bool → BlockCode → ℤ → List Bool → Result (List ℤ × List Bool) Why → Type 0
-BlockBy true kind predictor = IntraBlock kind predictor
-BlockBy false kind predictor = NonIntraBlock kind
+BlockBy true code predictor = IntraBlock code predictor
+BlockBy false code predictor = NonIntraBlock code
 
 -- a block, with the predictor of its DC level where it is intra
 abbrev pub Block : BlockCode → ℤ → List Bool → Result (List ℤ × List Bool) Why → Type 0
-Block kind predictor = BlockBy kind.intra kind predictor
+Block code predictor = BlockBy code.intra code predictor
 
 -- what is the first refusal in the bits of a block
 abbrev pub RefusesBlock : BlockCode → ℤ → List Bool → Why → Type 0
-RefusesBlock kind predictor bits why = Block kind predictor bits (Err why)
+RefusesBlock code predictor bits why = Block code predictor bits (Err why)
 
 -- what reading runs and levels leaves in the levels, and in the bits where it answers Ok
 abbrev pub ReadsPairs : BlockCode → ℕ → List Bool → List Bool → List ℤ → Result (Unit {0}) Why → Type 0
-ReadsPairs kind start old new levels (Ok _) =
-    (pairs : List Pair) × Pairs kind start old (Ok (pairs, new)) × (levels ≡ in_raster kind.alternate (level_at start pairs))
-ReadsPairs kind start old new levels (Err why) = Pairs kind start old (Err why)
+ReadsPairs code start old new levels (Ok _) =
+    (pairs : List Pair)
+    × Pairs code start old (Ok (pairs, new))
+    × (levels ≡ in_raster code.alternate (level_at start pairs))
+ReadsPairs code start old new levels (Err why) = Pairs code start old (Err why)
 
 -- the same of an intra block, with its DC level
 abbrev pub IntraReads : BlockCode → ℤ → List Bool → List Bool → List ℤ → Result (Unit {0}) Why → Type 0
-IntraReads kind predictor old new levels (Ok _) = IntraBlock kind predictor old (Ok (levels, new))
-IntraReads kind predictor old new levels (Err why) = IntraBlock kind predictor old (Err why)
+IntraReads code predictor old new levels (Ok _) = IntraBlock code predictor old (Ok (levels, new))
+IntraReads code predictor old new levels (Err why) = IntraBlock code predictor old (Err why)
 
 -- what reading a block leaves in its levels, and in the bits where it answers Ok
 abbrev pub ReadsBlock : BlockCode → ℤ → List Bool → List Bool → List ℤ → Result (Unit {0}) Why → Type 0
-ReadsBlock kind predictor old new levels (Ok _) = Block kind predictor old (Ok (levels, new))
-ReadsBlock kind predictor old new levels (Err why) = RefusesBlock kind predictor old why
+ReadsBlock code predictor old new levels (Ok _) = Block code predictor old (Ok (levels, new))
+ReadsBlock code predictor old new levels (Err why) = RefusesBlock code predictor old why
 
 -- the predictor of the next block's DC level: the DC level of an intra block (H.262, 7.2.1)
 abbrev pub next_predictor : BlockCode → ℤ → List ℤ → ℤ
-next_predictor kind predictor levels = if kind.intra then slice_index_or levels 0 (pos 0) else predictor
+next_predictor code predictor levels = if code.intra then slice_index_or levels 0 (pos 0) else predictor
 
 -- the first place of the scan of which a pair says the level
 abbrev pub first_place : Bool → ℕ

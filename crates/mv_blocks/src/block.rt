@@ -1,13 +1,13 @@
+//! Reading a block, and listing the runs and levels of one.
 ghost use Rattle.std.specs.Prelude.{◌≡◌, ◌+◌, ◌^◌, ◌<◌, ◌≤◌, ◌≤ℤ◌, ◌<ℤ◌, ◌+ℤ◌, pos, neg_ℤ, IsTrue, ◌↔◌, OnOk, IfOk, slice_index_or, MatchOption, not, ◌&&◌, ◌==◌};
 ghost use Rattle.mv_bits.specs.Readings.{ReadsAs};
-ghost use Rattle.mv_blocks.specs.Scans.{in_raster, raster_place};
+ghost use Rattle.mv_terms.specs.Scans.{raster_place};
 ghost use Rattle.mv_blocks.specs.Blocks.{signed_12, IsForbidden, Coefficient, Escaped, Next, IsInside, Pairs, ReadsPairs, dct_diff, IsDcLevel, DcLevel, IntraReads, ReadsBlock, next_predictor, first_place, pairs_of};
 
-use crate::scan::raster_place;
 use arrayvec::ArrayVec;
 use mv_bits::BitWindow;
 use mv_codes::{Coef, read_coef, read_dc_size};
-use mv_terms::Why;
+use mv_terms::{Why, raster_place};
 
 /// How a block is coded.
 #[derive(Clone, Copy, Debug, PartialEq, Eq)]
@@ -29,6 +29,28 @@ pub struct BlockCode {
 pub struct Pair {
     pub run: u8,
     pub level: i16,
+}
+
+/// Reads a block: its 64 levels, in raster order. In an intra block `dc` is the predictor of its DC level, and becomes
+/// this level; else it stays. A DC level that doesn't fit the precision, a forbidden level of an escape and a
+/// coefficient behind the last place are `BadBlock`; bits that no code begins are `BadCode`. After a refusal `dc` and
+/// the levels are anything. (H.262, 6.2.6 and 7.2.)
+pub fn read_block(
+    w: &mut BitWindow<'_>,
+    code: BlockCode,
+    dc: &mut i16,
+    levels: &mut [i16; 64],
+) -> Result<(), Why>
+    requires precision { code.dc_precision ≤ 3 }
+    // the levels of the bits, or the first refusal in them
+    ensures reads { ReadsBlock code dc.old w.old w.new levels.new result }
+    ensures predictor { OnOk result (dc.new ≡ next_predictor code dc.old levels.new) }
+{
+    if code.intra {
+        read_intra(w, code, dc, levels)
+    } else {
+        read_pairs(w, code, 0, levels)
+    }
 }
 
 fn signed_12(n: u32) -> i16
@@ -58,26 +80,26 @@ fn read_escaped(w: &mut BitWindow<'_>) -> Result<Option<Pair>, Why>
     }
 }
 
-fn is_first(kind: BlockCode, place: usize) -> bool
-    ensures { result ≡ (not kind.intra && (place == 0)) }
+fn is_first(code: BlockCode, place: usize) -> bool
+    ensures { result ≡ (not code.intra && (place == 0)) }
 {
-    !kind.intra && place == 0
+    !code.intra && place == 0
 }
 
-fn has_table_15(kind: BlockCode) -> bool
-    ensures { result ≡ (kind.intra && kind.table_15) }
+fn has_table_15(code: BlockCode) -> bool
+    ensures { result ≡ (code.intra && code.table_15) }
 {
-    kind.intra && kind.table_15
+    code.intra && code.table_15
 }
 
 fn read_coefficient(
     w: &mut BitWindow<'_>,
-    kind: BlockCode,
+    code: BlockCode,
     place: usize,
 ) -> Result<Option<Pair>, Why>
-    ensures { ReadsAs (Coefficient kind place) w.old w.new result }
+    ensures { ReadsAs (Coefficient code place) w.old w.new result }
 {
-    match read_coef(w, has_table_15(kind), is_first(kind, place)) {
+    match read_coef(w, has_table_15(code), is_first(code, place)) {
         None => Err(Why::BadCode),
         Some(Coef::End) => Ok(None),
         Some(Coef::Pair(run, level)) => Ok(Some(Pair { run, level })),
@@ -86,15 +108,14 @@ fn read_coefficient(
 }
 
 /// Reads the next run and level from a place of the scan on, or the end.
-fn read_next(w: &mut BitWindow<'_>, kind: BlockCode, place: usize) -> Result<Option<Pair>, Why>
+fn read_next(w: &mut BitWindow<'_>, code: BlockCode, place: usize) -> Result<Option<Pair>, Why>
     requires { place ≤ 64 }
-    ensures reads { ReadsAs (Next kind place) w.old w.new result }
+    ensures reads { ReadsAs (Next code place) w.old w.new result }
     ensures inside { IfOk result (λ found. IsInside place found) }
 {
-    match read_coefficient(w, kind, place) {
-        Err(why) => Err(why),
-        Ok(None) => Ok(None),
-        Ok(Some(pair)) => {
+    match read_coefficient(w, code, place)? {
+        None => Ok(None),
+        Some(pair) => {
             if place + pair.run as usize >= 64 {
                 Err(Why::BadBlock)
             } else {
@@ -107,22 +128,21 @@ fn read_next(w: &mut BitWindow<'_>, kind: BlockCode, place: usize) -> Result<Opt
 /// Reads runs and levels from a place of the scan on, up to the end.
 fn read_pairs(
     w: &mut BitWindow<'_>,
-    kind: BlockCode,
+    code: BlockCode,
     start: usize,
     levels: &mut [i16; 64],
 ) -> Result<(), Why>
     requires { start ≤ 64 }
-    ensures { ReadsPairs kind start w.old w.new levels.new result }
+    ensures { ReadsPairs code start w.old w.new levels.new result }
 {
     *levels = [0; 64];
     let mut place = start;
     'pairs: loop {
-        match read_next(w, kind, place) {
-            Err(why) => return Err(why),
-            Ok(None) => return Ok(()),
-            Ok(Some(pair)) => {
+        match read_next(w, code, place)? {
+            None => return Ok(()),
+            Some(pair) => {
                 let at = place + pair.run as usize;
-                levels[raster_place(kind.alternate, at)] = pair.level;
+                levels[raster_place(code.alternate, at)] = pair.level;
                 place = at + 1;
             }
         }
@@ -145,18 +165,11 @@ fn dct_diff(size: u32, differential: u32) -> i32
     }
 }
 
-fn sum(predictor: i16, difference: i32) -> i32
-    requires low { pos 0 ≤ℤ (difference +ℤ pos 2048) }
-    requires high { difference <ℤ pos 2048 }
-    ensures { result ≡ predictor +ℤ difference }
-{
-    i32::from(predictor) + difference
-}
-
 /// The level, or none where it doesn't fit the precision.
 fn fitting(precision: u8, level: i32) -> Option<i16>
     requires { precision ≤ 3 }
-    ensures { MatchOption result (IsDcLevel precision level → ⊥) (λ v. (v ≡ level) × IsDcLevel precision level) }
+    ensures { MatchOption result (IsDcLevel precision level → ⊥)
+        (λ v. (v ≡ level) × IsDcLevel precision level) }
 {
     if level >= 0 && level < 1 << (8 + precision) {
         Some(level as i16)
@@ -170,21 +183,23 @@ fn dc_level(precision: u8, predictor: i16, size: u32, differential: u32) -> Opti
     requires precision { precision ≤ 3 }
     requires few { size ≤ 11 }
     requires fits { differential < 2 ^ size }
-    ensures { MatchOption result (IsDcLevel precision (predictor +ℤ dct_diff size differential) → ⊥)
-        (λ v. (v ≡ predictor +ℤ dct_diff size differential) × IsDcLevel precision (predictor +ℤ dct_diff size differential)) }
+    ensures { let level = predictor +ℤ dct_diff size differential in
+        MatchOption result (IsDcLevel precision level → ⊥)
+        (λ v. (v ≡ level) × IsDcLevel precision level) }
 {
-    fitting(precision, sum(predictor, dct_diff(size, differential)))
+    let difference = dct_diff(size, differential);
+    fitting(precision, i32::from(predictor) + difference)
 }
 
-fn read_dc_level(w: &mut BitWindow<'_>, kind: BlockCode, predictor: i16) -> Result<i16, Why>
-    requires precision { kind.dc_precision ≤ 3 }
-    ensures { ReadsAs (DcLevel kind predictor) w.old w.new result }
+fn read_dc_level(w: &mut BitWindow<'_>, code: BlockCode, predictor: i16) -> Result<i16, Why>
+    requires precision { code.dc_precision ≤ 3 }
+    ensures { ReadsAs (DcLevel code predictor) w.old w.new result }
 {
-    match read_dc_size(w, kind.luma) {
+    match read_dc_size(w, code.luma) {
         None => Err(Why::BadCode),
         Some(size) => {
             let differential = w.take(u32::from(size));
-            match dc_level(kind.dc_precision, predictor, u32::from(size), differential) {
+            match dc_level(code.dc_precision, predictor, u32::from(size), differential) {
                 None => Err(Why::BadBlock),
                 Some(level) => Ok(level),
             }
@@ -194,48 +209,19 @@ fn read_dc_level(w: &mut BitWindow<'_>, kind: BlockCode, predictor: i16) -> Resu
 
 fn read_intra(
     w: &mut BitWindow<'_>,
-    kind: BlockCode,
+    code: BlockCode,
     dc: &mut i16,
     levels: &mut [i16; 64],
 ) -> Result<(), Why>
-    requires precision { kind.dc_precision ≤ 3 }
-    ensures reads { IntraReads kind dc.old w.old w.new levels.new result }
+    requires precision { code.dc_precision ≤ 3 }
+    ensures reads { IntraReads code dc.old w.old w.new levels.new result }
     ensures predictor { OnOk result (dc.new ≡ slice_index_or levels.new 0 (pos 0)) }
 {
-    let level = match read_dc_level(w, kind, *dc) {
-        Err(why) => return Err(why),
-        Ok(level) => level,
-    };
-    match read_pairs(w, kind, 1, levels) {
-        Err(why) => Err(why),
-        Ok(()) => {
-            levels[0] = level;
-            *dc = level;
-            Ok(())
-        }
-    }
-}
-
-/// Reads a block: its 64 levels, in raster order. In an intra block `dc` is the predictor of its DC level, and becomes
-/// this level; else it stays. A DC level that doesn't fit the precision, a forbidden level of an escape and a
-/// coefficient behind the last place are `BadBlock`; bits that no code begins are `BadCode`. After a refusal `dc` and
-/// the levels are anything. (H.262, 6.2.6 and 7.2.)
-pub fn read_block(
-    w: &mut BitWindow<'_>,
-    kind: BlockCode,
-    dc: &mut i16,
-    levels: &mut [i16; 64],
-) -> Result<(), Why>
-    requires precision { kind.dc_precision ≤ 3 }
-    // the levels of the bits, or the first refusal in them
-    ensures reads { ReadsBlock kind dc.old w.old w.new levels.new result }
-    ensures predictor { OnOk result (dc.new ≡ next_predictor kind dc.old levels.new) }
-{
-    if kind.intra {
-        read_intra(w, kind, dc, levels)
-    } else {
-        read_pairs(w, kind, 0, levels)
-    }
+    let level = read_dc_level(w, code, *dc)?;
+    read_pairs(w, code, 1, levels)?;
+    levels[0] = level;
+    *dc = level;
+    Ok(())
 }
 
 /// The level at a place of the scan.

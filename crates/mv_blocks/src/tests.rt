@@ -1,3 +1,4 @@
+//! Blocks read from bits that were written by hand or by another encoder.
 ghost use Rattle.std.specs.Prelude.{◌≤◌};
 
 use super::*;
@@ -17,12 +18,12 @@ const NON_INTRA: BlockCode = BlockCode {
     ..INTRA
 };
 
-fn read(bytes: &[u8], kind: BlockCode) -> (Result<(), Why>, [i16; 64], i16)
-    requires { kind.dc_precision ≤ 3 }
+fn read(bytes: &[u8], code: BlockCode) -> (Result<(), Why>, [i16; 64], i16)
+    requires { code.dc_precision ≤ 3 }
 {
     let mut levels = [7; 64];
     let mut dc = 128;
-    let answer = read_block(&mut BitWindow::new(bytes), kind, &mut dc, &mut levels);
+    let answer = read_block(&mut BitWindow::new(bytes), code, &mut dc, &mut levels);
     (answer, levels, dc)
 }
 
@@ -50,12 +51,12 @@ fn an_intra_block_is_read_by_table_b_14(rt: HostRuntime) {
 
 #[test]
 fn an_intra_block_is_read_by_table_b_15_and_the_alternate_scan(rt: HostRuntime) {
-    let kind = BlockCode {
+    let code = BlockCode {
         table_15: true,
         alternate: true,
         ..INTRA
     };
-    let (answer, levels, dc) = read(&[0xDE, 0x2F, 0x5B], kind);
+    let (answer, levels, dc) = read(&[0xDE, 0x2F, 0x5B], code);
     assert_eq!(rt; answer, Ok(()));
     assert_eq!(rt; dc, 143);
     let mut wanted = [0; 64];

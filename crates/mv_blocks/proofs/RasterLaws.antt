@@ -1,9 +1,9 @@
 -- A scan visits each place of a block once.
-use Rattle.std.proofs.Common.{◌≡◌, ℕ, zero, suc, ◌+◌, ◌<◌, Bool, true, false, ◌&&◌, not, cond, eqb, ltb, List, [], ◌∷◌, length, get_or, set, map, replicate, refl, ap, sym, ◌∙◌, subst, arith, ℤ, pos}
+use Rattle.std.proofs.Common.{◌≡◌, ℕ, suc, Bool, true, false, ◌&&◌, not, cond, eqb, List, [], ◌∷◌, get_or, set, map, replicate, refl, ap, sym, ◌∙◌, subst, arith, ℤ, pos}
 use Rattle.std.specs.List.{list_all}
 use Rattle.std.proofs.lemmas.Bool.Decides.{nat_tests}
-use Rattle.mv_blocks.specs.declared.scan.TheConstants.{ZIGZAG, ALTERNATE}
-use Rattle.mv_blocks.specs.Scans.{zigzag_scan, alternate_scan, scan, position, raster_place, in_raster}
+use Rattle.mv_terms.specs.Scans.{zigzag_scan, alternate_scan, scan, position, raster_place}
+use Rattle.mv_blocks.specs.Raster.{in_raster}
 
 and_true : (a b : Bool) → (a && b) ≡ true → (a ≡ true) × (b ≡ true)
 and_true true b e = (refl, e)
@@ -81,43 +81,3 @@ pub raster_place_zero : (alternate : Bool) → raster_place alternate 0 ≡ 0
 unfolding zigzag_scan alternate_scan raster_place
 raster_place_zero true = refl
 raster_place_zero false = refl
-
--- a list gives for each number below its length the place of the number in the scan
-abbrev pub leads_back : List ℕ → ℕ → List ℕ → Bool
-leads_back back k [] = true
-leads_back back k (p ∷ ps) = (eqb p (position back k) && ltb p 64) && leads_back back (suc k) ps
-
-leads_at : (back : List ℕ) (first : ℕ) (ps : List ℕ) (k : ℕ) → leads_back back first ps ≡ true → k < length ps → (get_or ps k 0 ≡ position back (first + k)) × (get_or ps k 0 < 64)
-leads_at back first [] k e h = absurd (omega arith)
-leads_at back first (p ∷ ps) zero e h =
-    let here = and_true _ _ ((and_true _ _ e).0) in
-    (same_number p (position back first) here.0 ∙ ap (position back) (add_none first), below p here.1)
-  where
-    add_none : (n : ℕ) → n ≡ n + 0
-    add_none n = omega arith
-
-    below : (p : ℕ) → ltb p 64 ≡ true → p < 64
-    below p e = grind (arith, nat_tests)
-leads_at back first (p ∷ ps) (suc k) e h =
-    let r = leads_at back (suc first) ps k ((and_true _ _ e).1) (omega arith) in
-    (r.0 ∙ ap (position back) (add_more first k), r.1)
-  where
-    add_more : (n k : ℕ) → suc n + k ≡ n + suc k
-    add_more n k = omega arith
-
-place_in : (alternate : Bool) (order : List ℕ) (k : ℕ) → leads_back (scan alternate) 0 order ≡ true → k < length order → (get_or order k 0 ≡ raster_place alternate k) × (get_or order k 0 < 64)
-unfolding raster_place
-place_in alternate order k e h =
-    let r = leads_at (scan alternate) 0 order k e h in
-    (r.0 ∙ ap (position (scan alternate)) (none_added k), r.1)
-  where
-    none_added : (n : ℕ) → 0 + n ≡ n
-    none_added n = omega arith
-
-pub alternate_place : (k : ℕ) → k < 64 → (get_or ALTERNATE k 0 ≡ raster_place true k) × (get_or ALTERNATE k 0 < 64)
-unfolding alternate_scan
-alternate_place k h = place_in true ALTERNATE k refl h
-
-pub zigzag_place : (k : ℕ) → k < 64 → (get_or ZIGZAG k 0 ≡ raster_place false k) × (get_or ZIGZAG k 0 < 64)
-unfolding zigzag_scan
-zigzag_place k h = place_in false ZIGZAG k refl h
