@@ -1,3 +1,6 @@
 pub mod PredictorLaws
+pub mod PredictableLaws
 pub mod VectorLaws
 pub mod VectorExamples
+pub mod WrapLemmas
+pub mod ReadLemmas

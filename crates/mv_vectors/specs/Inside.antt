@@ -4,7 +4,8 @@ use Rattle.std.specs.Int.{int_div_euclid}
 use Rattle.mv_terms.specs.declared.head.Head.{Head}
 use Rattle.mv_terms.specs.declared.macroblock.Vector.{Vector}
 use Rattle.mv_terms.specs.declared.macroblock.Decision.{Decision}
-use Rattle.mv_vectors.specs.Vectors.{vector, vector_of, f_code, f_of, is_in_range}
+use Rattle.mv_terms.specs.Decisions.{vector, vector_of}
+use Rattle.mv_vectors.specs.Vectors.{f_code, f_of, is_in_range}
 
 -- H.262, 7.6.3.7: the vector of the chroma blocks of a 4:2:0 picture, half of that of luma, toward zero
 abbrev pub chroma : Vector → Vector
@@ -44,10 +45,18 @@ abbrev pub is_inside : Head → ℕ → ℕ → Decision → Bool
 is_inside head mb_x mb_y d =
     (not d.forward || is_direction_inside head mb_x mb_y d 0) && (not d.backward || is_direction_inside head mb_x mb_y d 1)
 
--- the first vector of a direction is in its range
-abbrev pub is_direction_in_range : Head → Decision → ℕ → Bool
-is_direction_in_range head d s =
-    is_in_range (f_of (f_code head s 0)) (vector_of d s 0).x && is_in_range (f_of (f_code head s 1)) (vector_of d s 0).y
+-- a vector of a direction is in its range
+abbrev pub is_vector_in_range : Head → Decision → ℕ → ℕ → Bool
+is_vector_in_range head d s r =
+    is_in_range (f_of (f_code head s 0)) (vector_of d s r).x && is_in_range (f_of (f_code head s 1)) (vector_of d s r).y
 
+-- the vectors of a direction that is used: two where the prediction is field-based, else the first alone
+abbrev pub are_vectors_in_range : Head → Decision → ℕ → Bool → Bool
+are_vectors_in_range head d s field =
+    if field then is_vector_in_range head d s 0 && is_vector_in_range head d s 1 else is_vector_in_range head d s 0
+
+-- all vectors that a macroblock is predicted with
 abbrev pub are_in_range : Head → Decision → Bool
-are_in_range head d = (not d.forward || is_direction_in_range head d 0) && (not d.backward || is_direction_in_range head d 1)
+are_in_range head d =
+    (not d.forward || are_vectors_in_range head d 0 d.field_motion)
+    && (not d.backward || are_vectors_in_range head d 1 d.field_motion)

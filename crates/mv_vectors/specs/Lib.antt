@@ -1,2 +1,5 @@
 pub mod Vectors
 pub mod Inside
+pub mod Skipped
+pub mod Predictable
+pub mod Steps

@@ -1,32 +1,23 @@
 -- The motion vectors of a macroblock: from its own codes, and from the macroblocks before it in its slice (H.262,
 -- 6.2.5.2 and 7.6.3). A direction s is 0 for forward and 1 for backward, r is 0 for its first vector and 1 for its
 -- second, and t is 0 for horizontal and 1 for vertical.
-use Rattle.std.specs.Prelude.{◌≡◌, ℕ, ◌+◌, ◌-◌, ◌*◌, ◌^◌, ◌==◌, ◌&&◌, ◌||◌, not, Bool, true, false, List, [], ◌∷◌, if◌then◌else◌, slice_index, slice_index_or, ℤ, pos, neg_ℤ, ◌+ℤ◌, ◌-ℤ◌, ◌*ℤ◌, int_lt, unsigned_abs, Result}
+use Rattle.std.specs.Prelude.{◌≡◌, ℕ, ◌+◌, ◌-◌, ◌*◌, ◌^◌, ◌≤◌, ◌==◌, ◌&&◌, ◌||◌, not, Bool, true, false, List, [], ◌∷◌, if◌then◌else◌, slice_index, slice_index_or, ℤ, pos, neg_ℤ, ◌+ℤ◌, ◌-ℤ◌, ◌*ℤ◌, int_lt, unsigned_abs, Result}
 use Rattle.std.specs.Int.{int_div_euclid}
 use Rattle.mv_terms.specs.declared.status.Why.{Why}
 use Rattle.mv_terms.specs.declared.status.Why.TheVariants.{BadCode}
-use Rattle.mv_terms.specs.declared.head.PicType.{PicType}
-use Rattle.mv_terms.specs.declared.head.PicType.TheVariants as pic
 use Rattle.mv_terms.specs.declared.head.Head.{Head}
 use Rattle.mv_terms.specs.declared.macroblock.Vector.{Vector}
 use Rattle.mv_terms.specs.declared.macroblock.Decision.{Decision}
+use Rattle.mv_terms.specs.PicTypes.{is_p}
+use Rattle.mv_terms.specs.Ranges.{f_codes}
+use Rattle.mv_terms.specs.Decisions.{vector, still}
 use Rattle.mv_bits.specs.Readings.{◌>>=◌, Gives, Field, Flag, When}
 use Rattle.mv_codes.specs.Tables.{CodeOf, signed_by}
 use Rattle.mv_codes.specs.Motions.{motion_codes}
 
-abbrev pub vector : ℤ → ℤ → Vector
-vector x y = record { x = x; y = y }
-
-abbrev pub still : Vector
-still = vector (pos 0) (pos 0)
-
 -- f_code[s][t]
 abbrev pub f_code : Head → ℕ → ℕ → ℕ
-f_code head s t = slice_index (slice_index_or head.f_code s []) t
-
--- vector'[r][s]
-abbrev pub vector_of : Decision → ℕ → ℕ → Vector
-vector_of d s r = slice_index_or (slice_index_or d.vectors s []) r still
+f_code head s t = slice_index (f_codes head s) t
 
 -- H.262, 7.6.3.1: delta, with f = 2 ^ (f_code - 1)
 abbrev pub delta : ℕ → ℤ → ℕ → ℤ
@@ -87,23 +78,28 @@ undirected = frame_directed still
 abbrev pub field_directed : Bool × Vector → Bool × Vector → Directed
 field_directed first second = record { selects = first.0 ∷ second.0 ∷ []; vectors = first.1 ∷ second.1 ∷ [] }
 
+-- the selects and vectors of a direction of a decision
+abbrev pub directed : Decision → ℕ → Directed
+directed d s = record { selects = slice_index_or d.selects s []; vectors = slice_index_or d.vectors s [] }
+
 -- PMV[r][s] at [s][r]
 abbrev pub predictor_at : List (List Vector) → ℕ → ℕ → Vector
 predictor_at predictors s r = slice_index_or (slice_index_or predictors s []) r still
 
 -- motion_vectors(s): one vector of frame prediction, or two of field prediction
-abbrev pub Direction : Head → List (List Vector) → ℕ → Bool → List Bool → Result (Directed × List Bool) Why → Type 0
-Direction head predictors s false = do
-  v ← FrameVector head s (predictor_at predictors s 0)
+abbrev pub DirectionFrom : Head → ℕ → Vector → Vector → Bool → List Bool → Result (Directed × List Bool) Why → Type 0
+DirectionFrom head s first_predictor second_predictor false = do
+  v ← FrameVector head s first_predictor
   Gives (frame_directed v)
-Direction head predictors s true = do
-  first ← FieldVector head s (predictor_at predictors s 0)
-  second ← FieldVector head s (predictor_at predictors s 1)
+DirectionFrom head s first_predictor second_predictor true = do
+  first ← FieldVector head s first_predictor
+  second ← FieldVector head s second_predictor
   Gives (field_directed first second)
 
-abbrev pub is_p : PicType → Bool
-is_p pic.P = true
-is_p other = false
+-- the same, with the predictors of the direction
+abbrev pub Direction : Head → List (List Vector) → ℕ → Bool → List Bool → Result (Directed × List Bool) Why → Type 0
+Direction head predictors s field =
+    DirectionFrom head s (predictor_at predictors s 0) (predictor_at predictors s 1) field
 
 -- an intra macroblock has concealment vectors, which are forward ones, where concealment_motion_vectors is 1 (H.262, 7.6.3.9)
 abbrev pub conceals : Head → Decision → Bool
@@ -118,11 +114,15 @@ has_vectors head d s = not d.skipped && (if s == 0 then d.forward || conceals he
 abbrev pub resets : Head → Decision → Bool
 resets head d = if d.intra then not head.concealment else is_p head.pic && not d.forward
 
--- H.262, 7.6.3.3: the predictor that a macroblock with vectors leaves; the vertical one of field prediction is doubled
+-- H.262, 7.6.3.3: the predictor that the vectors of a direction leave; the vertical one of field prediction is doubled
+abbrev pub left : Directed → Bool → ℕ → Vector
+left x field r =
+    let v = slice_index_or x.vectors r still in
+    if field then vector v.x (pos 2 *ℤ v.y) else slice_index_or x.vectors 0 still
+
+-- the predictor that a macroblock with vectors leaves
 abbrev pub left_by : Decision → ℕ → ℕ → Vector
-left_by d s r =
-    if d.field_motion then vector (vector_of d s r).x (pos 2 *ℤ (vector_of d s r).y)
-    else vector_of d s 0
+left_by d s r = left (directed d s) d.field_motion r
 
 -- the predictor behind a macroblock, where it was this one before
 abbrev pub predictor_behind : Head → Decision → ℕ → ℕ → Vector → Vector
@@ -149,3 +149,16 @@ predictors_behind head d before = four (λ s r. predictor_behind head d s r (pre
 -- one more macroblock
 abbrev pub PredictorsGrow : Type 0
 PredictorsGrow = (head : Head) (d : Decision) (past : List Decision) → predictors head (d ∷ past) ≡ predictors_behind head d (predictors head past)
+
+-- the predictors stand for these macroblocks of a slice, the latest first
+abbrev pub StandsFor : List (List Vector) → Head → List Decision → Type 0
+StandsFor at head past = at ≡ predictors head past
+
+-- a direction, backward or not
+abbrev pub direction : Bool → ℕ
+direction backward = if backward then 1 else 0
+
+-- vectors of this direction can be read (H.262, Table 7-8)
+pub record HasReadableCodes (head : Head) (s : ℕ) : Type 0 where
+  pub horizontal : f_code head s 0 ≤ 9
+  pub vertical : f_code head s 1 ≤ 9
