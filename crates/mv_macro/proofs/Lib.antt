@@ -3,6 +3,8 @@ pub mod PastLaws
 pub mod KindLaws
 mod BlockLemmas
 mod MacroLemmas
-mod IntraLemmas
+mod PatternLemmas
+mod StageLemmas
 mod ExampleLemmas
 mod MacroblockExamples
+pub mod TypeLemmas

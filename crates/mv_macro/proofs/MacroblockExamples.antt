@@ -8,6 +8,7 @@ use Rattle.mv_terms.specs.declared.head.Head.{Head}
 use Rattle.mv_terms.specs.declared.macroblock.Vector.{Vector}
 use Rattle.mv_terms.specs.declared.macroblock.Decision.{Decision}
 use Rattle.mv_terms.specs.declared.macroblock.MacroLevels.{MacroLevels}
+use Rattle.mv_terms.specs.Decisions.{vector, still, six, no_levels, no_blocks}
 use Rattle.mv_bits.specs.Bits.{front}
 use Rattle.mv_codes.specs.declared.macroblock_type.TypeBits.{TypeBits}
 use Rattle.mv_codes.specs.declared.coefficient.Coef.TheVariants as coef
@@ -16,12 +17,12 @@ use Rattle.mv_codes.specs.Sizes.{dc_size_codes, luma_size_codes, chroma_size_cod
 use Rattle.mv_codes.specs.Motions.{motion_codes}
 use Rattle.mv_codes.specs.Types.{type_codes, type_i_codes, type_p_codes, type_b_codes}
 use Rattle.mv_codes.specs.Patterns.{pattern_codes}
-use Rattle.mv_blocks.specs.Scans.{zigzag_scan}
+use Rattle.mv_terms.specs.Scans.{zigzag_scan}
 use Rattle.mv_blocks.specs.Blocks.{Next, IsDcLevel, Pairs, Block, pair, codes_at, dct_diff}
-use Rattle.mv_vectors.specs.Vectors.{Component, FrameVector, FieldVector, Direction, vector, still, field_directed, undirected, predictor, predictors_behind}
+use Rattle.mv_vectors.specs.Vectors.{Component, FrameVector, FieldVector, Direction, field_directed, undirected, predictor, predictors_behind}
 use Rattle.mv_vectors.specs.Inside.{is_inside}
 use Rattle.mv_macro.specs.Past.{Given, Start, coded, given, after}
-use Rattle.mv_macro.specs.Macroblocks.{Macroblock, skipped, Skipped, IntraBlock, IntraBlocks, PatternBlocks, Pattern, block_code, no_blocks, no_levels, six}
+use Rattle.mv_macro.specs.Macroblocks.{Macroblock, skipped, Skipped, IntraBlock, IntraBlocks, PatternBlocks, Pattern, block_code}
 use Rattle.mv_macro.proofs.ExampleLemmas.{bits, found, spells, in_two, none_begins, differ, not_true}
 
 -- a head with these f_codes, forward and backward, and whether frame_pred_frame_dct and concealment_motion_vectors are 1

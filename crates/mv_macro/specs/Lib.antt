@@ -1,4 +1,3 @@
 pub mod Past
 pub mod Macroblocks
-pub mod Answers
-pub mod Parts
+pub mod Steps

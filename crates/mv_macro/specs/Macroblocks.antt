@@ -1,14 +1,13 @@
 -- The bits of a macroblock behind its address increment, and of those that an increment jumps over (H.262, 6.2.5 to
 -- 6.2.6, 6.3.17 and 7.6.6).
-use Rattle.std.specs.Prelude.{◌≡◌, ℕ, ◌/◌, ◌%◌, ◌==◌, ◌||◌, not, ◌&&◌, Bool, true, false, IsTrue, List, [], ◌∷◌, replicate, if◌then◌else◌, slice_index_or, ℤ, pos, Result}
+use Rattle.std.specs.Prelude.{◌≡◌, ℕ, ◌/◌, ◌%◌, ◌==◌, ◌||◌, not, ◌&&◌, Bool, true, false, IsTrue, List, [], ◌∷◌, if◌then◌else◌, slice_index_or, ℤ, pos, Result}
 use Rattle.mv_terms.specs.declared.status.Why.{Why}
 use Rattle.mv_terms.specs.declared.status.Why.TheVariants.{BadCode, BadMacro, BadVector, Unsupported}
-use Rattle.mv_terms.specs.declared.head.PicType.{PicType}
-use Rattle.mv_terms.specs.declared.head.PicType.TheVariants as pic
 use Rattle.mv_terms.specs.declared.head.Head.{Head}
-use Rattle.mv_terms.specs.declared.macroblock.Vector.{Vector}
 use Rattle.mv_terms.specs.declared.macroblock.Decision.{Decision}
 use Rattle.mv_terms.specs.declared.macroblock.MacroLevels.{MacroLevels}
+use Rattle.mv_terms.specs.Unsupported.{dual_prime}
+use Rattle.mv_terms.specs.Decisions.{six, no_levels, no_blocks}
 use Rattle.mv_bits.specs.Readings.{◌>>=◌, Gives, Field, Flag, Demands, When}
 use Rattle.mv_codes.specs.declared.macroblock_type.TypeBits.{TypeBits}
 use Rattle.mv_codes.specs.Tables.{CodeOf}
@@ -16,9 +15,10 @@ use Rattle.mv_codes.specs.Types.{type_codes}
 use Rattle.mv_codes.specs.Patterns.{pattern_codes}
 use Rattle.mv_blocks.specs.declared.block.BlockCode.{BlockCode}
 use Rattle.mv_blocks.specs.Blocks.{Block}
-use Rattle.mv_vectors.specs.Vectors.{Directed, Direction, undirected, still, predictor_at}
+use Rattle.mv_vectors.specs.Vectors.{Directed, Direction, undirected, predictor_at}
 use Rattle.mv_vectors.specs.Inside.{is_inside, are_in_range}
-use Rattle.mv_macro.specs.Past.{Coded, Given, coded, dc_level}
+use Rattle.mv_vectors.specs.Skipped.{may_skip, skipped_with}
+use Rattle.mv_macro.specs.Past.{CodedMacroblock, Given, coded, dc_level}
 
 -- how a block of this picture is coded
 abbrev pub block_code : Head → Bool → Bool → BlockCode
@@ -29,10 +29,6 @@ block_code head intra luma = record {
   alternate = head.alternate;
   dc_precision = head.dc_precision;
 }
-
--- the blocks of a macroblock in the order Y0 to Y3, Cb, Cr
-abbrev pub six : List ℤ → List ℤ → List ℤ → List ℤ → List ℤ → List ℤ → MacroLevels
-six y0 y1 y2 y3 cb cr = record { blocks = y0 ∷ y1 ∷ y2 ∷ y3 ∷ cb ∷ cr ∷ [] }
 
 abbrev pub IntraBlock : Head → Bool → ℤ → List Bool → Result (List ℤ × List Bool) Why → Type 0
 IntraBlock head luma predictor = Block (block_code head true luma) predictor
@@ -51,19 +47,14 @@ IntraBlocks head dc = do
   cr ← IntraBlock head false (predictor_of dc 2)
   Gives (six y0 y1 y2 y3 cb cr)
 
-abbrev pub no_levels : List ℤ
-no_levels = replicate 64 (pos 0)
-
-abbrev pub no_blocks : MacroLevels
-no_blocks = six no_levels no_levels no_levels no_levels no_levels no_levels
-
 -- the bit of a coded block pattern for a block, by what that bit is worth (H.262, 6.3.17.4)
 abbrev pub is_coded : ℕ → ℕ → Bool
 is_coded pattern worth = pattern / worth % 2 == 1
 
 -- a block that the pattern names; the levels of another one are zero
 abbrev pub PatternBlock : Head → Bool → ℕ → ℕ → List Bool → Result (List ℤ × List Bool) Why → Type 0
-PatternBlock head luma pattern worth = When (is_coded pattern worth) no_levels (Block (block_code head false luma) (pos 0))
+PatternBlock head luma pattern worth =
+    When (is_coded pattern worth) no_levels (Block (block_code head false luma) (pos 0))
 
 abbrev pub PatternBlocks : Head → ℕ → List Bool → Result (MacroLevels × List Bool) Why → Type 0
 PatternBlocks head pattern = do
@@ -85,7 +76,7 @@ abbrev pub MotionType : List Bool → Result (Bool × List Bool) Why → Type 0
 MotionType = do
   kind ← Field 2
   allowed ← Demands (kind ≡ 0 → ⊥) BadMacro
-  not_dual_prime ← Demands (kind ≡ 3 → ⊥) (Unsupported 5)
+  not_dual_prime ← Demands (kind ≡ 3 → ⊥) (Unsupported dual_prime)
   Gives (kind == 1)
 
 -- quantiser_scale_code
@@ -135,7 +126,7 @@ abbrev pub has_concealment : Head → TypeBits → Bool
 has_concealment head type = type.intra && head.concealment
 
 -- a macroblock behind its increment (H.262, 6.2.5)
-abbrev pub Macroblock : Head → Given → List Bool → Result (Coded × List Bool) Why → Type 0
+abbrev pub Macroblock : Head → Given → List Bool → Result (CodedMacroblock × List Bool) Why → Type 0
 Macroblock head g = do
   type ← CodeOf (type_codes head.pic) BadCode
   field_motion ← When (sends_motion_type head type) false MotionType
@@ -144,48 +135,23 @@ Macroblock head g = do
   forward ← When (type.forward || has_concealment head type) undirected (Direction head g.predictors 0 field_motion)
   backward ← When type.backward undirected (Direction head g.predictors 1 field_motion)
   marker ← When (has_concealment head type) tt Marker
-  inside ← Demands (IsTrue (is_inside head g.mb_x g.mb_y (decided g type field_motion field_dct scale forward backward))) BadVector
+  inside ← Demands
+      (IsTrue (is_inside head g.mb_x g.mb_y (decided g type field_motion field_dct scale forward backward))) BadVector
   pattern ← When type.pattern 0 Pattern
   blocks ← Blocks head g.dc type.intra pattern
   Gives (coded (decided g type field_motion field_dct scale forward backward) blocks)
 
-abbrev pub is_i : PicType → Bool
-is_i pic.I = true
-is_i other = false
-
-abbrev pub is_b : PicType → Bool
-is_b pic.B = true
-is_b other = false
-
--- the vectors of a direction that a skipped macroblock takes over (H.262, 7.6.6)
-abbrev pub taken_over : Bool → Given → ℕ → List Vector
-taken_over used g s = (if used then predictor_at g.predictors s 0 else still) ∷ still ∷ []
-
 -- the decision of a skipped macroblock: in a B picture the directions of the one before it, with the predictors as its
--- vectors
+-- vectors (H.262, 7.6.6)
 abbrev pub skipped : Head → Given → Decision
-skipped head g = record {
-  slice_start = false;
-  skipped = true;
-  quant = false;
-  intra = false;
-  forward = is_b head.pic && g.before_forward;
-  backward = is_b head.pic && g.before_backward;
-  field_dct = false;
-  field_motion = false;
-  scale = g.scale;
-  selects = undirected.selects ∷ undirected.selects ∷ [];
-  vectors = taken_over (is_b head.pic && g.before_forward) g 0 ∷ taken_over (is_b head.pic && g.before_backward) g 1 ∷ [];
-  head_scale = 0;
-}
-
--- a macroblock may be skipped: not in an I picture, and in a B picture not behind an intra one (H.262, 6.3.17)
-abbrev pub may_skip : Head → Given → Bool
-may_skip head g = not (is_i head.pic) && not (is_b head.pic && g.before_intra)
+skipped head g =
+    skipped_with head g.before_forward g.before_backward
+    (predictor_at g.predictors 0 0) (predictor_at g.predictors 1 0) g.scale
 
 -- a skipped macroblock, which has no bits
-abbrev pub Skipped : Head → Given → List Bool → Result (Coded × List Bool) Why → Type 0
+abbrev pub Skipped : Head → Given → List Bool → Result (CodedMacroblock × List Bool) Why → Type 0
 Skipped head g = do
-  allowed ← Demands (IsTrue (may_skip head g)) BadMacro
-  right ← Demands (IsTrue (are_in_range head (skipped head g) && is_inside head g.mb_x g.mb_y (skipped head g))) BadVector
+  allowed ← Demands (IsTrue (may_skip head g.before_intra)) BadMacro
+  right ← Demands
+      (IsTrue (are_in_range head (skipped head g) && is_inside head g.mb_x g.mb_y (skipped head g))) BadVector
   Gives (coded (skipped head g) no_blocks)

@@ -4,20 +4,21 @@ use Rattle.mv_terms.specs.declared.head.Head.{Head}
 use Rattle.mv_terms.specs.declared.macroblock.Vector.{Vector}
 use Rattle.mv_terms.specs.declared.macroblock.Decision.{Decision}
 use Rattle.mv_terms.specs.declared.macroblock.MacroLevels.{MacroLevels}
+use Rattle.mv_terms.specs.Decisions.{block}
 use Rattle.mv_vectors.specs.Vectors.{predictors, predictors_behind}
 
 -- a macroblock as it is coded, skipped or not
-pub record Coded : Type 0 where
+pub record CodedMacroblock : Type 0 where
   pub decision : Decision
   pub levels : MacroLevels
 
-abbrev pub coded : Decision → MacroLevels → Coded
+abbrev pub coded : Decision → MacroLevels → CodedMacroblock
 coded decision levels = record { decision = decision; levels = levels }
 
-abbrev pub decisions : List Coded → List Decision
+abbrev pub decisions : List CodedMacroblock → List Decision
 decisions macroblocks = map (λ m. m.decision) macroblocks
 
-abbrev pub levels : List Coded → List MacroLevels
+abbrev pub levels : List CodedMacroblock → List MacroLevels
 levels macroblocks = map (λ m. m.levels) macroblocks
 
 -- where a slice begins, and the quantiser scale code of its header
@@ -43,9 +44,6 @@ pub record Given : Type 0 where
 abbrev pub dc_level : List ℤ → ℤ
 dc_level block = slice_index_or block 0 (pos 0)
 
-abbrev pub block : MacroLevels → ℕ → List ℤ
-block m b = slice_index_or m.blocks b []
-
 -- H.262, Table 7-2: the predictors at the start of a slice, and behind a macroblock that isn't intra
 abbrev pub reset_level : Head → ℤ
 reset_level head = pos (2 ^ (7 + head.dc_precision))
@@ -58,29 +56,29 @@ abbrev pub last_dc_levels : MacroLevels → List ℤ
 last_dc_levels m = dc_level (block m 3) ∷ dc_level (block m 4) ∷ dc_level (block m 5) ∷ []
 
 -- behind a macroblock: those of an intra one (H.262, 7.2.1)
-abbrev pub dc_behind : Head → Coded → List ℤ
+abbrev pub dc_behind : Head → CodedMacroblock → List ℤ
 dc_behind head m = if m.decision.intra then last_dc_levels m.levels else reset_levels head
 
-abbrev pub dc_predictors : Head → List Coded → List ℤ
+abbrev pub dc_predictors : Head → List CodedMacroblock → List ℤ
 dc_predictors head [] = reset_levels head
 dc_predictors head (m ∷ past) = dc_behind head m
 
 -- the scale code in force (H.262, 6.3.16 and 6.3.17.1)
-abbrev pub scale_in_force : Start → List Coded → ℕ
+abbrev pub scale_in_force : Start → List CodedMacroblock → ℕ
 scale_in_force start [] = start.scale
 scale_in_force start (m ∷ past) = m.decision.scale
 
-abbrev pub is_empty : List Coded → Bool
+abbrev pub is_empty : List CodedMacroblock → Bool
 is_empty [] = true
 is_empty (m ∷ past) = false
 
 -- a fact of the macroblock before, if there is one
-abbrev pub of_last : (Decision → Bool) → List Coded → Bool
+abbrev pub of_last : (Decision → Bool) → List CodedMacroblock → Bool
 of_last fact [] = false
 of_last fact (m ∷ past) = fact m.decision
 
 -- what macroblocks of a slice, the latest first, say to the next one
-abbrev pub given : Head → Start → List Coded → Given
+abbrev pub given : Head → Start → List CodedMacroblock → Given
 given head start past = record {
   first = is_empty past;
   scale = scale_in_force start past;
@@ -94,7 +92,7 @@ given head start past = record {
 }
 
 -- the same behind one more macroblock
-abbrev pub after : Head → Given → Coded → Given
+abbrev pub after : Head → Given → CodedMacroblock → Given
 after head g m = record {
   first = false;
   scale = m.decision.scale;
@@ -108,4 +106,4 @@ after head g m = record {
 }
 
 abbrev pub GivenGrows : Type 0
-GivenGrows = (head : Head) (start : Start) (m : Coded) (past : List Coded) → given head start (m ∷ past) ≡ after head (given head start past) m
+GivenGrows = (head : Head) (start : Start) (m : CodedMacroblock) (past : List CodedMacroblock) → given head start (m ∷ past) ≡ after head (given head start past) m

@@ -1,21 +1,112 @@
-ghost use Rattle.std.specs.Prelude.{◌≡◌, ◌≤◌, ◌<◌, true, false, Ok, OnOk};
+//! The parts of a macroblock: what stands before its vectors, the vectors, and the blocks.
+ghost use Rattle.std.specs.Prelude.{◌≡◌, ◌≤◌, ◌<◌, ◌||◌, true, false, Ok};
 ghost use Rattle.mv_terms.specs.declared.status.Why.{Why};
 ghost use Rattle.mv_bits.specs.Readings.{ReadsAs, Flag, When};
-ghost use Rattle.mv_vectors.specs.Vectors.{undirected};
-ghost use Rattle.mv_macro.specs.Macroblocks.{ScaleCode, block_code, sends_dct_type, decided};
-ghost use Rattle.mv_macro.specs.Parts.{component, ReadsIntraBlock, ReadsIntraBlocks, behind_intra};
+ghost use Rattle.mv_vectors.specs.Vectors.{direction, HasReadableCodes};
+ghost use Rattle.mv_terms.specs.Ranges.{HasLegalFCodes};
+ghost use Rattle.mv_macro.specs.Macroblocks.{ScaleCode, MotionType, Marker, Pattern, block_code, is_coded, sends_motion_type, sends_dct_type, has_concealment};
+ghost use Rattle.mv_macro.specs.Steps.{component_of_block, blocks_at, ReadsModes, ReadsDirection, ReadsMotion, ReadsBlocks, ReadsIntraBlock, ReadsIntraBlocks, ReadsPatternBlock, ReadsPatternBlocks};
 
-use crate::state::SliceState;
 use mv_bits::BitWindow;
 use mv_blocks::{BlockCode, read_block};
-use mv_codes::{TypeBits, read_type};
-use mv_terms::{Decision, Head, MacroLevels, Vector, Why};
+use mv_codes::{TypeBits, read_pattern, read_type};
+use mv_terms::{Decision, Head, Why, unsupported};
+use mv_vectors::Predictors;
+
+/// What the bits of a macroblock say before its vectors.
+#[derive(Clone, Copy)]
+pub(crate) struct Modes {
+    pub(crate) flags: TypeBits,
+    pub(crate) field_motion: bool,
+    pub(crate) field_dct: bool,
+    pub(crate) scale: u8,
+}
+
+/// Reads what stands before the vectors: the type, and the motion type, the dct type and the scale code where they are
+/// sent. This scale code is in force before.
+pub(crate) fn read_modes(w: &mut BitWindow<'_>, head: &Head, scale: u8) -> Result<Modes, Why>
+    ensures { ReadsModes head.now scale w.old w.new result }
+{
+    let flags = match read_type(w, head.pic) {
+        None => return Err(Why::BadCode),
+        Some(flags) => flags,
+    };
+    let field_motion = read_motion_type(w, sends_motion_type(head, &flags))?;
+    let field_dct = read_flag(w, sends_dct_type(head, &flags));
+    let scale = read_scale(w, flags.quant, scale)?;
+    Ok(Modes {
+        flags,
+        field_motion,
+        field_dct,
+        scale,
+    })
+}
+
+/// Reads the vectors of both directions where they are sent, and the marker behind those of concealment. The decision
+/// has no vectors before.
+pub(crate) fn read_motion(
+    w: &mut BitWindow<'_>,
+    head: &Head,
+    flags: &TypeBits,
+    predictors: &mut Predictors,
+    d: &mut Decision,
+) -> Result<(), Why>
+    requires forward { (flags.now.forward || has_concealment head.now flags.now) ≡ true
+        → HasReadableCodes head.now 0 }
+    requires backward { flags.now.backward ≡ true → HasReadableCodes head.now 1 }
+    ensures { ReadsMotion head.now (flags.now.forward || has_concealment head.now flags.now)
+        flags.now.backward (has_concealment head.now flags.now) predictors.old d.old w.old
+        predictors.new d.new w.new result }
+{
+    let conceals = has_concealment(head, flags);
+    read_direction(w, head, has_forward(head, flags), false, predictors, d)?;
+    read_direction(w, head, flags.backward, true, predictors, d)?;
+    read_marker(w, conceals)
+}
+
+/// Reads the pattern where it is sent, and the blocks: all of an intra macroblock, else those of the pattern; the levels
+/// of the others are zero.
+pub(crate) fn read_blocks(
+    w: &mut BitWindow<'_>,
+    head: &Head,
+    flags: &TypeBits,
+    dc: &mut [i16; 3],
+    blocks: &mut [[i16; 64]; 6],
+) -> Result<(), Why>
+    requires { head.now.dc_precision ≤ 3 }
+    ensures { ReadsBlocks head.now flags.now dc.old w.old (blocks_at dc.new blocks.new w.new) result }
+{
+    let pattern = read_pattern_where(w, flags.pattern)?;
+    if flags.intra {
+        read_intra_blocks(w, head, dc, blocks)
+    } else {
+        read_pattern_blocks(w, head, pattern, blocks)
+    }
+}
+
+/// Reads the six blocks of an intra macroblock, with the predictors of their DC levels as `read_intra_block`.
+fn read_intra_blocks(
+    w: &mut BitWindow<'_>,
+    head: &Head,
+    dc: &mut [i16; 3],
+    blocks: &mut [[i16; 64]; 6],
+) -> Result<(), Why>
+    requires { head.now.dc_precision ≤ 3 }
+    ensures { ReadsIntraBlocks head.now dc.old w.old (blocks_at dc.new blocks.new w.new) result }
+{
+    read_intra_block(w, head, 0, dc, blocks)?;
+    read_intra_block(w, head, 1, dc, blocks)?;
+    read_intra_block(w, head, 2, dc, blocks)?;
+    read_intra_block(w, head, 3, dc, blocks)?;
+    read_intra_block(w, head, 4, dc, blocks)?;
+    read_intra_block(w, head, 5, dc, blocks)
+}
 
 /// Whether a macroblock of this type has a bit `dct_type`.
-fn sends_dct_type(head: &Head, kind: &TypeBits) -> bool
-    ensures { result ≡ sends_dct_type head.now kind.now }
+fn sends_dct_type(head: &Head, flags: &TypeBits) -> bool
+    ensures { result ≡ sends_dct_type head.now flags.now }
 {
-    (kind.intra || kind.pattern) && !head.frame_only
+    (flags.intra || flags.pattern) && !head.frame_only
 }
 
 /// Reads a bit where it is sent.
@@ -40,12 +131,142 @@ fn read_scale(w: &mut BitWindow<'_>, sent: bool, scale: u8) -> Result<u8, Why>
     }
 }
 
-/// How an intra block of this picture is coded.
-fn intra_code(head: &Head, luma: bool) -> BlockCode
-    ensures { result ≡ block_code head.now true luma }
+/// Whether a macroblock of this type has a motion type.
+fn sends_motion_type(head: &Head, flags: &TypeBits) -> bool
+    ensures { result ≡ sends_motion_type head.now flags.now }
+{
+    (flags.forward || flags.backward) && !head.frame_only
+}
+
+/// Reads `frame_motion_type` where it is sent: whether the prediction is field-based.
+fn read_motion_type(w: &mut BitWindow<'_>, sent: bool) -> Result<bool, Why>
+    ensures { ReadsAs (When sent false MotionType) w.old w.new result }
+{
+    if !sent {
+        return Ok(false);
+    }
+    let kind = w.take(2);
+    if kind == 0 {
+        Err(Why::BadMacro)
+    } else if kind == 3 {
+        Err(Why::Unsupported(unsupported::DUAL_PRIME))
+    } else {
+        Ok(kind == 1)
+    }
+}
+
+/// Whether a macroblock of this type has concealment vectors.
+fn has_concealment(head: &Head, flags: &TypeBits) -> bool
+    ensures { result ≡ has_concealment head.now flags.now }
+{
+    flags.intra && head.concealment
+}
+
+/// Whether a macroblock of this type has forward vectors, which may be for concealment.
+fn has_forward(head: &Head, flags: &TypeBits) -> bool
+    ensures { result ≡ (flags.now.forward || has_concealment head.now flags.now) }
+{
+    flags.forward || has_concealment(head, flags)
+}
+
+/// Reads the vectors of a direction where they are sent.
+fn read_direction(
+    w: &mut BitWindow<'_>,
+    head: &Head,
+    sent: bool,
+    backward: bool,
+    predictors: &mut Predictors,
+    d: &mut Decision,
+) -> Result<(), Why>
+    requires { sent ≡ true → HasReadableCodes head.now (direction backward) }
+    ensures { ReadsDirection head.now (direction backward) sent predictors.old d.old w.old
+        predictors.new d.new w.new result }
+{
+    if sent {
+        predictors.read(w, head, d, backward)
+    } else {
+        Ok(())
+    }
+}
+
+/// Reads the marker behind concealment vectors where it is sent.
+fn read_marker(w: &mut BitWindow<'_>, sent: bool) -> Result<(), Why>
+    ensures { ReadsAs (When sent tt Marker) w.old w.new result }
+{
+    if !sent || w.take(1) == 1 {
+        Ok(())
+    } else {
+        Err(Why::BadMacro)
+    }
+}
+
+/// Reads the pattern of the coded blocks where it is sent. It names one at least.
+fn read_pattern_where(w: &mut BitWindow<'_>, sent: bool) -> Result<u8, Why>
+    ensures { ReadsAs (When sent 0 Pattern) w.old w.new result }
+{
+    if !sent {
+        return Ok(0);
+    }
+    match read_pattern(w) {
+        None => Err(Why::BadCode),
+        Some(0) => Err(Why::BadMacro),
+        Some(pattern) => Ok(pattern),
+    }
+}
+
+/// Whether a pattern names the block whose bit is worth so much.
+fn is_coded(pattern: u8, worth: u8) -> bool
+    requires { 0 < worth }
+    ensures { result ≡ is_coded pattern worth }
+{
+    pattern / worth % 2 == 1
+}
+
+/// Reads the blocks that a pattern names.
+fn read_pattern_blocks(
+    w: &mut BitWindow<'_>,
+    head: &Head,
+    pattern: u8,
+    blocks: &mut [[i16; 64]; 6],
+) -> Result<(), Why>
+    requires { head.now.dc_precision ≤ 3 }
+    ensures { ReadsPatternBlocks head.now pattern w.old blocks.new w.new result }
+{
+    read_pattern_block(w, head, is_coded(pattern, 32), 0, blocks)?;
+    read_pattern_block(w, head, is_coded(pattern, 16), 1, blocks)?;
+    read_pattern_block(w, head, is_coded(pattern, 8), 2, blocks)?;
+    read_pattern_block(w, head, is_coded(pattern, 4), 3, blocks)?;
+    read_pattern_block(w, head, is_coded(pattern, 2), 4, blocks)?;
+    read_pattern_block(w, head, is_coded(pattern, 1), 5, blocks)
+}
+
+/// Reads block i of a macroblock that isn't intra where it is coded; else its levels are zero.
+fn read_pattern_block(
+    w: &mut BitWindow<'_>,
+    head: &Head,
+    coded: bool,
+    i: usize,
+    blocks: &mut [[i16; 64]; 6],
+) -> Result<(), Why>
+    requires place { i < 6 }
+    requires precision { head.now.dc_precision ≤ 3 }
+    ensures { ReadsPatternBlock head.now i coded w.old blocks.old blocks.new w.new result }
+{
+    if coded {
+        let code = code_of(head, false, component_of_block(i) == 0);
+        read_block(w, code, &mut 0, &mut blocks[i])
+    } else {
+        blocks[i] = [0; 64];
+        Ok(())
+    }
+}
+
+/// How a block of this picture is coded.
+fn code_of(head: &Head, intra: bool, luma: bool) -> BlockCode
+    ensures { result ≡ block_code head.now intra luma }
 {
     BlockCode {
-        intra: true,
+        intra,
         luma,
         table_15: head.table_15,
         alternate: head.alternate,
@@ -54,9 +275,9 @@ fn intra_code(head: &Head, luma: bool) -> BlockCode
 }
 
 /// The component of a block of a macroblock: 0 for Y, 1 for Cb and 2 for Cr.
-fn component(i: usize) -> usize
+fn component_of_block(i: usize) -> usize
     requires { i < 6 }
-    ensures value { result ≡ component i }
+    ensures value { result ≡ component_of_block i }
     ensures bound { result < 3 }
 {
     if i < 4 { 0 } else { i - 3 }
@@ -73,118 +294,10 @@ fn read_intra_block(
 ) -> Result<(), Why>
     requires place { i < 6 }
     requires precision { head.now.dc_precision ≤ 3 }
-    ensures { ReadsIntraBlock head.now i dc.old w.old dc.new blocks.old blocks.new w.new result }
+    ensures { ReadsIntraBlock head.now i (blocks_at dc.old blocks.old w.old)
+        (blocks_at dc.new blocks.new w.new) result }
 {
-    let component = component(i);
-    let kind = intra_code(head, component == 0);
-    read_block(w, kind, &mut dc[component], &mut blocks[i])
-}
-
-/// Reads the six blocks of an intra macroblock, with the predictors of their DC levels as `read_intra_block`.
-fn read_intra_blocks(
-    w: &mut BitWindow<'_>,
-    head: &Head,
-    dc: &mut [i16; 3],
-    blocks: &mut [[i16; 64]; 6],
-) -> Result<(), Why>
-    requires { head.now.dc_precision ≤ 3 }
-    ensures { ReadsIntraBlocks head.now dc.old w.old dc.new (record { blocks = blocks.new }) w.new result }
-{
-    read_intra_block(w, head, 0, dc, blocks)?;
-    read_intra_block(w, head, 1, dc, blocks)?;
-    read_intra_block(w, head, 2, dc, blocks)?;
-    read_intra_block(w, head, 3, dc, blocks)?;
-    read_intra_block(w, head, 4, dc, blocks)?;
-    read_intra_block(w, head, 5, dc, blocks)
-}
-
-const STILL: Vector = Vector { x: 0, y: 0 };
-
-impl SliceState {
-    ghost use Rattle.std.specs.Prelude.{◌≡◌, ◌≤◌, ◌<◌, List, ◌∷◌, false, OnOk};
-    ghost use Rattle.mv_terms.specs.declared.head.PicType.TheVariants.{I};
-    ghost use Rattle.mv_macro.specs.Past.{Coded, Start, coded};
-    ghost use Rattle.mv_macro.specs.Answers.{ReadsMacro, ReadsSkipped, StandsFor};
-
-    /// The decision of a macroblock of this type without vectors.
-    fn decision(&self, kind: &TypeBits, field_dct: bool, scale: u8) -> Decision
-        ensures { result ≡ decided self.now kind.now false field_dct scale undirected undirected }
-    {
-        Decision {
-            slice_start: self.first,
-            skipped: false,
-            quant: kind.quant,
-            intra: kind.intra,
-            forward: kind.forward,
-            backward: kind.backward,
-            field_dct,
-            field_motion: false,
-            scale,
-            selects: [[false; 2]; 2],
-            vectors: [[STILL; 2]; 2],
-            head_scale: if self.first { self.scale } else { 0 },
-        }
-    }
-
-    /// Moves behind an intra macroblock without concealment vectors, whose DC levels are the predictors already.
-    fn pass_intra(&mut self, head: &Head, d: &Decision)
-        requires { self.old.mb_x < head.now.mb_wide }
-        ensures { self.new ≡ behind_intra self.old d.now }
-    {
-        prove!(self.mb_x < head.mb_wide);
-        self.first = false;
-        self.scale = d.scale;
-        self.predictors = [[STILL; 2]; 2];
-        self.mb_x += 1;
-        self.before_intra = d.intra;
-        self.before_forward = d.forward;
-        self.before_backward = d.backward;
-    }
-
-    /// Reads a macroblock of an I picture without concealment vectors from its `macroblock_type` on: what is decided for
-    /// it, and the levels of its blocks (H.262, 6.2.5). Bits that no code begins are `BadCode`, a quantiser scale code 0
-    /// is `BadMacro`, and a forbidden level and a coefficient behind the last place of a block are `BadBlock`. After a
-    /// refusal, what it was lent holds anything.
-    pub fn read_macro(
-        &mut self,
-        w: &mut BitWindow<'_>,
-        head: &Head,
-        d: &mut Decision,
-        l: &mut MacroLevels,
-    ) -> Result<(), Why>
-        requires pic { head.now.pic ≡ I }
-        requires plain { head.now.concealment ≡ false }
-        requires precision { head.now.dc_precision ≤ 3 }
-        requires place { self.old.mb_x < head.now.mb_wide }
-        ensures reads { ReadsMacro head.now self.old w.old self.new d.new l.new w.new result }
-        ensures stands { OnOk result ((start : Start) (past : List Coded)
-            → StandsFor self.old head.now start past → StandsFor self.new head.now start (coded d.new l.new ∷ past)) }
-    {
-        let kind = match read_type(w, head.pic) {
-            None => return Err(Why::BadCode),
-            Some(kind) => kind,
-        };
-        let field_dct = read_flag(w, sends_dct_type(head, &kind));
-        let scale = match read_scale(w, kind.quant, self.scale) {
-            Err(why) => return Err(why),
-            Ok(scale) => scale,
-        };
-        match read_intra_blocks(w, head, &mut self.dc, &mut l.blocks) {
-            Err(why) => Err(why),
-            Ok(()) => {
-                *d = self.decision(&kind, field_dct, scale);
-                self.pass_intra(head, d);
-                Ok(())
-            }
-        }
-    }
-
-    /// Finds what is decided for a macroblock that an address increment jumps over (H.262, 7.6.6). In an I picture none
-    /// may be: it is `BadMacro`.
-    pub fn read_skipped(&mut self, head: &Head, d: &mut Decision) -> Result<(), Why>
-        requires pic { head.now.pic ≡ I }
-        ensures { ReadsSkipped head.now self.old self.new d.new result }
-    {
-        Err(Why::BadMacro)
-    }
+    let component = component_of_block(i);
+    let code = code_of(head, true, component == 0);
+    read_block(w, code, &mut dc[component], &mut blocks[i])
 }

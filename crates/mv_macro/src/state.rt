@@ -1,7 +1,16 @@
-ghost use Rattle.std.specs.Prelude.{◌≡◌, ◌≤◌, ◌<◌, ◌^◌, pos};
-ghost use Rattle.mv_macro.specs.Past.{reset_level, GivenGrows};
+//! What the macroblocks of a slice so far say to the next one, and the reading of that one.
+ghost use Rattle.std.specs.Prelude.{◌≡◌, ◌≤◌, ◌^◌, ◌&&◌, pos};
+ghost use Rattle.mv_terms.specs.PicTypes.{is_b};
+ghost use Rattle.mv_terms.specs.Decisions.{still};
+ghost use Rattle.mv_vectors.specs.Vectors.{undirected};
+ghost use Rattle.mv_vectors.specs.Skipped.{skipped_with, may_skip};
+ghost use Rattle.mv_macro.specs.Past.{Given, reset_level};
+ghost use Rattle.mv_macro.specs.Macroblocks.{decided};
 
-use mv_terms::{Head, Vector};
+use crate::macroblock::{Modes, read_blocks, read_modes, read_motion};
+use mv_bits::BitWindow;
+use mv_terms::{Decision, Head, MacroLevels, PicType, Vector, Why};
+use mv_vectors::{Predictors, inside};
 use std::marker::Model;
 
 /// What the macroblocks of a slice so far say to the next one.
@@ -12,7 +21,7 @@ pub struct SliceState {
     pub(crate) first: bool,
     pub(crate) scale: u8,
     pub(crate) dc: [i16; 3],
-    pub(crate) predictors: [[Vector; 2]; 2],
+    pub(crate) predictors: Predictors,
     pub(crate) mb_x: u16,
     pub(crate) mb_y: u16,
     pub(crate) before_intra: bool,
@@ -38,22 +47,16 @@ impl Model for SliceState {
     } };
 }
 
-/// The predictor of a DC level at the start of a slice (H.262, Table 7-2).
-fn reset_level(head: &Head) -> i16
-    requires { head.now.dc_precision ≤ 3 }
-    ensures { result ≡ reset_level head.now }
-{
-    match head.dc_precision {
-        0 => 128,
-        1 => 256,
-        2 => 512,
-        _ => 1024,
-    }
-}
-
 impl SliceState {
-    ghost use Rattle.std.specs.Prelude.{◌≡◌, ◌≤◌, []};
-    ghost use Rattle.mv_macro.specs.Answers.{StandsFor};
+    ghost use Rattle.std.specs.Prelude.{◌≡◌, ◌≤◌, ◌<◌, List, [], ◌∷◌, false, true, OnOk, ◌&&◌, not};
+    ghost use Rattle.mv_terms.specs.PicTypes.{is_i, is_b};
+    ghost use Rattle.mv_terms.specs.Ranges.{HasLegalFCodes};
+    ghost use Rattle.mv_vectors.specs.Vectors.{undirected};
+    ghost use Rattle.mv_vectors.specs.Skipped.{skipped_with, may_skip};
+    ghost use Rattle.mv_terms.specs.Decisions.{still};
+    ghost use Rattle.mv_macro.specs.Past.{CodedMacroblock, Start, coded};
+    ghost use Rattle.mv_macro.specs.Macroblocks.{decided};
+    ghost use Rattle.mv_macro.specs.Steps.{passed, ReadsMacro, ReadsSkipped, StandsFor};
 
     /// Stands before the first macroblock of a slice, at this column and row of macroblocks; `scale` is the scale code
     /// of the slice header.
@@ -66,7 +69,7 @@ impl SliceState {
             first: true,
             scale,
             dc: [reset_level(head); 3],
-            predictors: [[Vector { x: 0, y: 0 }; 2]; 2],
+            predictors: Predictors::new(),
             mb_x,
             mb_y,
             before_intra: false,
@@ -88,9 +91,152 @@ impl SliceState {
     {
         self.mb_x
     }
+
+    /// Reads a macroblock from its `macroblock_type` on: what is decided for it, and the levels of its blocks (H.262,
+    /// 6.2.5). Bits that no code begins are `BadCode`; a motion type 0, a quantiser scale code 0, a marker 0 and a
+    /// pattern 0 are `BadMacro`, and dual prime prediction is `Unsupported`; a vector that leads outside of the
+    /// reference pictures is `BadVector`; a forbidden level and a coefficient behind the last place of a block are
+    /// `BadBlock`. After a refusal, what it was lent holds anything.
+    pub fn read_macro(
+        &mut self,
+        w: &mut BitWindow<'_>,
+        head: &Head,
+        d: &mut Decision,
+        l: &mut MacroLevels,
+    ) -> Result<(), Why>
+        requires f_codes { HasLegalFCodes head.now }
+        requires precision { head.now.dc_precision ≤ 3 }
+        requires place { self.old.mb_x < head.now.mb_wide }
+        ensures reads { ReadsMacro head.now self.old w.old self.new d.new l.new w.new result }
+        ensures stands { OnOk result ((start : Start) (past : List CodedMacroblock)
+            → StandsFor self.old head.now start past
+            → StandsFor self.new head.now start (coded d.new l.new ∷ past)) }
+    {
+        let modes = read_modes(w, head, self.scale)?;
+        *d = decision(self.first, self.scale, &modes);
+        read_motion(w, head, &modes.flags, &mut self.predictors, d)?;
+        if !inside(head, d, self.mb_x, self.mb_y) {
+            return Err(Why::BadVector);
+        }
+        read_blocks(w, head, &modes.flags, &mut self.dc, &mut l.blocks)?;
+        self.pass(head, d);
+        Ok(())
+    }
+
+    /// Finds what is decided for a macroblock that an address increment jumps over (H.262, 7.6.6). In an I picture none
+    /// may be, and in a B picture none behind an intra one: it is `BadMacro`. A vector that it takes over and that is out
+    /// of its range or leads outside is `BadVector`.
+    pub fn read_skipped(&mut self, head: &Head, d: &mut Decision) -> Result<(), Why>
+        requires f_codes { HasLegalFCodes head.now }
+        requires precision { head.now.dc_precision ≤ 3 }
+        requires place { self.old.mb_x < head.now.mb_wide }
+        ensures { ReadsSkipped head.now self.old self.new d.new result }
+    {
+        if !may_skip(head, self.before_intra) {
+            return Err(Why::BadMacro);
+        }
+        *d = skipped(head, self.before_forward, self.before_backward, self.scale);
+        let in_range = self.predictors.skip(head, d);
+        if !both(in_range, inside(head, d, self.mb_x, self.mb_y)) {
+            return Err(Why::BadVector);
+        }
+        self.pass(head, d);
+        Ok(())
+    }
+
+    /// Moves behind a macroblock whose codes were read, or that is skipped.
+    fn pass(&mut self, head: &Head, d: &Decision)
+        requires place { self.old.mb_x < head.now.mb_wide }
+        requires precision { head.now.dc_precision ≤ 3 }
+        ensures { self.new ≡ passed head.now self.old d.now }
+    {
+        // for the proof: the column and the width as 16 bits, so that the next column is one too
+        prove!(self.mb_x < head.mb_wide);
+        self.first = false;
+        self.scale = d.scale;
+        if !d.intra {
+            self.dc = [reset_level(head); 3];
+        }
+        self.predictors.pass(head, d);
+        self.mb_x += 1;
+        self.before_intra = d.intra;
+        self.before_forward = d.forward;
+        self.before_backward = d.backward;
+    }
 }
 
-/// What one more macroblock makes of what the next one is given.
-pub fn given_law()
-    ensures { GivenGrows }
-{}
+/// The decision of a macroblock of this type without vectors, where it is the first of its slice or not and this scale
+/// code was in force.
+fn decision(first: bool, scale: u8, modes: &Modes) -> Decision
+    ensures { (g : Given) → g.first ≡ first → g.scale ≡ scale
+        → result ≡ decided g modes.now.flags modes.now.field_motion modes.now.field_dct
+        modes.now.scale undirected undirected }
+{
+    Decision {
+        slice_start: first,
+        skipped: false,
+        quant: modes.flags.quant,
+        intra: modes.flags.intra,
+        forward: modes.flags.forward,
+        backward: modes.flags.backward,
+        field_dct: modes.field_dct,
+        field_motion: modes.field_motion,
+        scale: modes.scale,
+        selects: [[false; 2]; 2],
+        vectors: [[Vector::STILL; 2]; 2],
+        head_scale: if first { scale } else { 0 },
+    }
+}
+
+/// Whether a macroblock may be skipped behind one that is intra or not.
+fn may_skip(head: &Head, before_intra: bool) -> bool
+    ensures { result ≡ may_skip head.now before_intra }
+{
+    !matches!(head.pic, PicType::I) && !is_b_behind(head, before_intra)
+}
+
+/// Whether a macroblock of a B picture stands behind one of which this is true.
+fn is_b_behind(head: &Head, fact: bool) -> bool
+    ensures { result ≡ (is_b head.now.pic && fact) }
+{
+    matches!(head.pic, PicType::B) && fact
+}
+
+fn both(a: bool, b: bool) -> bool
+    ensures { result ≡ (a && b) }
+{
+    a && b
+}
+
+/// The decision of a skipped macroblock behind one with these directions, without vectors.
+fn skipped(head: &Head, before_forward: bool, before_backward: bool, scale: u8) -> Decision
+    ensures { result ≡ skipped_with head.now before_forward before_backward still still scale }
+{
+    Decision {
+        slice_start: false,
+        skipped: true,
+        quant: false,
+        intra: false,
+        forward: is_b_behind(head, before_forward),
+        backward: is_b_behind(head, before_backward),
+        field_dct: false,
+        field_motion: false,
+        scale,
+        selects: [[false; 2]; 2],
+        vectors: [[Vector::STILL; 2]; 2],
+        head_scale: 0,
+    }
+}
+
+/// The predictor of a DC level at the start of a slice (H.262, Table 7-2).
+fn reset_level(head: &Head) -> i16
+    requires { head.now.dc_precision ≤ 3 }
+    ensures { result ≡ reset_level head.now }
+{
+    match head.dc_precision {
+        0 => 128,
+        1 => 256,
+        2 => 512,
+        _ => 1024,
+    }
+}
