@@ -9,10 +9,10 @@ use Rattle.mv_terms.specs.declared.macroblock.MacroLevels.{MacroLevels}
 use Rattle.mv_bits.specs.Bits.{bits_of, trim}
 use Rattle.mv_bits.specs.Elements.{cut, Cut, are_elements, code, payload}
 use Rattle.mv_bits.proofs.CutLaws.{cut_started}
-use Rattle.mv_macro.specs.Past.{Coded, Start, decisions, levels}
-use Rattle.mv_slices.specs.Increments.{SliceHeader}
+use Rattle.mv_macro.specs.Past.{CodedMacroblock, Start, decisions, levels}
+use Rattle.mv_slices.specs.Header.{SliceHeader}
 use Rattle.mv_slices.specs.Slices.{SliceOf, SlicesFrom, SlicesBehind, PictureMacroblocks, Slices, RefusesSlices}
-use Rattle.mv_slices.specs.Answers.{Lists, lists, ReadsMacroblocks, ReadsSlice}
+use Rattle.mv_slices.specs.Steps.{Lists, lists, ReadsMacroblocks, ReadsSlice}
 
 -- ---- a slice
 
@@ -40,11 +40,11 @@ module _ (head : Head) (s : Lists) (element : List ℕ) where
 -- ---- a picture
 
 -- the slices behind these macroblocks read as the rest of the whole
-abbrev pub Leads : Head → List (List ℕ) → List Coded → List (List ℕ) → Type 0
-Leads head elements all left = (outcome : Result (List Coded) Why) → SlicesFrom head all left outcome → SlicesFrom head [] elements outcome
+abbrev pub Leads : Head → List (List ℕ) → List CodedMacroblock → List (List ℕ) → Type 0
+Leads head elements all left = (outcome : Result (List CodedMacroblock) Why) → SlicesFrom head all left outcome → SlicesFrom head [] elements outcome
 
 pub record AreCovered (head : Head) (elements left : List (List ℕ)) (s t : Lists) : Type 0 where
-  pub all : List Coded
+  pub all : List CodedMacroblock
   pub leads : Leads head elements all left
   pub count : t.place ≡ length all
   pub decided : take t.place t.decisions ≡ decisions all
@@ -71,8 +71,8 @@ module _ {head : Head} {elements left : List (List ℕ)} {s t : Lists} (a : AreC
           all = a.all ++ reverse past;
           leads = λ outcome f. leads_here outcome (inl (past, rest, subst (λ (n : ℕ). SliceOf head n element (Ok (past, rest))) a.count h, f));
           count = omega (arith, place, count, len, len');
-          decided = adds.decisions ∙ ap (λ (x : List Decision). x ++ decisions (reverse past)) a.decided ∙ sym (map-append (λ (m : Coded). m.decision) a.all (reverse past));
-          levels_are = adds.levels ∙ ap (λ (x : List MacroLevels). x ++ levels (reverse past)) a.levels_are ∙ sym (map-append (λ (m : Coded). m.levels) a.all (reverse past));
+          decided = adds.decisions ∙ ap (λ (x : List Decision). x ++ decisions (reverse past)) a.decided ∙ sym (map-append (λ (m : CodedMacroblock). m.decision) a.all (reverse past));
+          levels_are = adds.levels ∙ ap (λ (x : List MacroLevels). x ++ levels (reverse past)) a.levels_are ∙ sym (map-append (λ (m : CodedMacroblock). m.levels) a.all (reverse past));
           same_decisions = hd ∙ a.same_decisions;
           same_levels = hl ∙ a.same_levels;
         }
@@ -82,7 +82,7 @@ module _ {head : Head} {elements left : List (List ℕ)} {s t : Lists} (a : AreC
     leads_end = subst (λ (xs : List (List ℕ)). Leads head elements a.all xs) none a.leads
 
     pub covered_all : length s.decisions ≡ head.mb_wide * head.mb_high → length s.levels ≡ head.mb_wide * head.mb_high → t.place ≡ length t.decisions
-        → (all : List Coded) × SlicesFrom head [] elements (Ok all) × (t.decisions ≡ decisions all) × (t.levels ≡ levels all)
+        → (all : List CodedMacroblock) × SlicesFrom head [] elements (Ok all) × (t.decisions ≡ decisions all) × (t.levels ≡ levels all)
     covered_all hd hl whole =
         let sd = a.same_decisions in
         let sl = a.same_levels in
@@ -102,10 +102,10 @@ none_in_front [] h = refl
 none_in_front (b ∷ bs) h = ap (λ (c : Cut). c.front) (cut_started b bs h)
 
 module _ (head : Head) (bytes : List ℕ) (started : are_elements bytes ≡ true) where
-  picture_of : (o : Result (List Coded) Why) → SlicesFrom head [] (cut bytes).elements o → PictureMacroblocks head bytes o
+  picture_of : (o : Result (List CodedMacroblock) Why) → SlicesFrom head [] (cut bytes).elements o → PictureMacroblocks head bytes o
   picture_of o h = subst (λ (front : List ℕ). SlicesBehind front head (cut bytes).elements o) (sym (none_in_front bytes started)) h
 
-  pub picture_coded : (d : List Decision) (l : List MacroLevels) → (all : List Coded) × SlicesFrom head [] (cut bytes).elements (Ok all) × (d ≡ decisions all) × (l ≡ levels all) → Slices head bytes d l
+  pub picture_coded : (d : List Decision) (l : List MacroLevels) → (all : List CodedMacroblock) × SlicesFrom head [] (cut bytes).elements (Ok all) × (d ≡ decisions all) × (l ≡ levels all) → Slices head bytes d l
   picture_coded d l h = (h.0, picture_of (Ok h.0) h.1, h.2, h.3)
 
   pub picture_refused : (why : Why) → SlicesFrom head [] (cut bytes).elements (Err why) → RefusesSlices head bytes why

@@ -1,19 +1,11 @@
+//! The header of a slice behind its start code.
 ghost use Rattle.std.specs.Prelude.{◌≡◌, ◌≤◌, ◌<◌};
 ghost use Rattle.mv_bits.specs.Readings.{ReadsAs};
-ghost use Rattle.mv_slices.specs.Increments.{SliceHeader};
-ghost use Rattle.mv_slices.specs.Answers.{PassesExtra};
+ghost use Rattle.mv_slices.specs.Header.{SliceHeader};
+ghost use Rattle.mv_slices.specs.Steps.{PassesExtra};
 
 use mv_bits::BitWindow;
 use mv_terms::Why;
-
-/// Moves past the extra information of a slice and the bit 0 behind it.
-fn pass_extra_information(w: &mut BitWindow<'_>)
-    ensures { PassesExtra w.old w.new }
-{
-    'extra: while w.take(1) == 1 {
-        let _ = w.take(8);
-    }
-}
 
 /// Reads the header of a slice behind its start code: its quantiser scale code, which isn't 0 (H.262, 6.2.4).
 pub(crate) fn read_header(w: &mut BitWindow<'_>) -> Result<u8, Why>
@@ -25,4 +17,13 @@ pub(crate) fn read_header(w: &mut BitWindow<'_>) -> Result<u8, Why>
     }
     pass_extra_information(w);
     Ok(scale)
+}
+
+/// Moves past the extra information of a slice and the bit 0 behind it.
+fn pass_extra_information(w: &mut BitWindow<'_>)
+    ensures { PassesExtra w.old w.new }
+{
+    'extra: while w.take(1) == 1 {
+        let _ = w.take(8);
+    }
 }

@@ -61,6 +61,17 @@ fn bits(letter: u8) -> &'static str {
         b's' => "011 1 10010 10010 10010 10010 0010 0010",
         // the same with an increment of 3
         b't' => "010 1 10010 10010 10010 10010 0010 0010",
+        // an intra macroblock of a P or B picture
+        b'i' => "1 00011 10010 10010 10010 10010 0010 0010",
+        // forward macroblocks of a P picture without blocks: half a sample to the right of the predictor and to the left,
+        // and at it behind two skipped ones
+        b'p' => "1 001 010 1",
+        b'q' => "1 001 011 1",
+        b'k' => "010 001 1 1",
+        // macroblocks of a B picture without blocks: backward, half a sample to the right of the predictor, and forward,
+        // at it behind a skipped one
+        b'w' => "1 010 010 1",
+        b'f' => "011 0010 1 1",
         // the first DC levels of luma and of Cb are 1 more than their predictors
         b'b' => "1 1 00110 10010 10010 10010 01110 0010",
         _ => "",
@@ -111,12 +122,23 @@ struct Outcome {
 }
 
 fn read(rt: &impl Abort, slices: &[u8]) -> Outcome {
+    read_as(rt, PicType::I, slices)
+}
+
+/// Reads the slices of a picture of this type.
+fn read_as(rt: &impl Abort, pic: PicType, slices: &[u8]) -> Outcome {
+    let head = Head {
+        pic,
+        f_code: [[1; 2]; 2],
+        ..HEAD
+    };
+    assert!(rt; head.is_legal());
     assert!(rt; has_no_front(slices));
     let mut decisions = [OTHER; 24];
     let mut levels = [MacroLevels {
         blocks: [[7; 64]; 6],
     }; 24];
-    let answer = read_slices(&HEAD, slices, &mut decisions, &mut levels);
+    let answer = read_slices(&head, slices, &mut decisions, &mut levels);
     Outcome {
         answer,
         decisions,
@@ -231,5 +253,60 @@ fn a_slice_ends_before_zeros_alone(rt: HostRuntime) -> Result<(), Fail> {
     for (text, wanted) in cases {
         assert_eq!(rt; first_row(&rt, rt.alloc(), text)?, wanted);
     }
+    Ok(())
+}
+
+/// A row of intra macroblocks of a P or B picture.
+const INTRA: &str = "Hiiiiii";
+
+/// The slices of a P or B picture whose first row has these letters; the others are intra.
+fn first_row_as(rt: &impl Abort, alloc: Global, pic: PicType, text: &str) -> Result<Outcome, Fail> {
+    let rows = [(1, text), (2, INTRA), (3, INTRA), (4, INTRA)];
+    Ok(read_as(rt, pic, &slices_of(alloc, &rows)?))
+}
+
+#[test]
+fn vectors_of_a_p_picture_begin_anew_behind_skipped_macroblocks(
+    rt: HostRuntime,
+) -> Result<(), Fail> {
+    let outcome = first_row_as(&rt, rt.alloc(), PicType::P, "Hpkpq")?;
+    assert_eq!(rt; outcome.answer, Ok(()));
+    // whether it is skipped, and the horizontal component of its vector
+    let wanted = [
+        (false, 1),
+        (true, 0),
+        (true, 0),
+        (false, 0),
+        (false, 1),
+        (false, 0),
+    ];
+    for (d, (skipped, x)) in outcome.decisions.iter().zip(&wanted) {
+        assert_eq!(rt; d.skipped, *skipped);
+        assert_eq!(rt; d.forward, !*skipped);
+        assert_eq!(rt; d.vectors[0][0], Vector { x: *x, y: 0 });
+    }
+    // the last macroblock of the row would move out of the picture
+    let outside = first_row_as(&rt, rt.alloc(), PicType::P, "Hpkpp")?;
+    assert_eq!(rt; outside.answer, Err(Why::BadVector));
+    Ok(())
+}
+
+#[test]
+fn a_skipped_macroblock_of_a_b_picture_goes_on_as_the_one_before(
+    rt: HostRuntime,
+) -> Result<(), Fail> {
+    let outcome = first_row_as(&rt, rt.alloc(), PicType::B, "Hwfiii")?;
+    assert_eq!(rt; outcome.answer, Ok(()));
+    let half = Vector { x: 1, y: 0 };
+    let still = Vector { x: 0, y: 0 };
+    let [first, second, third, ..] = outcome.decisions;
+    assert_eq!(rt; first.vectors, [[still; 2], [half, still]]);
+    assert!(rt; second.skipped && second.backward && !second.forward);
+    assert_eq!(rt; second.vectors, [[still; 2], [half, still]]);
+    assert!(rt; third.forward && !third.backward);
+    assert_eq!(rt; third.vectors, [[still; 2]; 2]);
+    // none is skipped behind an intra macroblock
+    let behind_intra = first_row_as(&rt, rt.alloc(), PicType::B, "Hwfifi")?;
+    assert_eq!(rt; behind_intra.answer, Err(Why::BadMacro));
     Ok(())
 }

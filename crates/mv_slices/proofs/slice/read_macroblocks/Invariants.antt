@@ -1,5 +1,5 @@
 use Rattle.std.proofs.Common.{◌-◌}
-use Rattle.mv_slices.specs.Answers.{lists}
+use Rattle.mv_slices.specs.Steps.{lists}
 use Rattle.mv_slices.proofs.SliceLemmas.{IsReached}
 use Rattle.mv_slices.proofs.slice.read_macroblocks.Given as goal
 

@@ -1,4 +1,4 @@
-use Rattle.mv_slices.specs.Answers.{lists}
+use Rattle.mv_slices.specs.Steps.{lists}
 use Rattle.mv_slices.proofs.SliceLemmas.{AreSkipped}
 use Rattle.mv_slices.proofs.slice.skip.Given as goal
 

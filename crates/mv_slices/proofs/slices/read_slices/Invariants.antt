@@ -1,7 +1,7 @@
 use Rattle.std.proofs.Common.{length}
 use Rattle.std.specs.Prelude.{IsTrue}
 use Rattle.mv_bits.specs.Elements.{cut, are_elements}
-use Rattle.mv_slices.specs.Answers.{lists}
+use Rattle.mv_slices.specs.Steps.{lists}
 use Rattle.mv_slices.proofs.PictureLemmas.{AreCovered}
 use Rattle.mv_slices.proofs.slices.read_slices.Given as goal
 

@@ -1,12 +1,13 @@
--- What the readers of slices answer.
+-- What the steps of reading slices answer: nobody needs to believe it, it only carries proofs.
 use Rattle.std.specs.Prelude.{◌≡◌, ℕ, ◌+◌, ◌<◌, ◌≤◌, Bool, false, List, [], ◌++◌, length, take, reverse, min, Result, Ok, Err}
 use Rattle.mv_terms.specs.declared.status.Why.{Why}
 use Rattle.mv_terms.specs.declared.head.Head.{Head}
 use Rattle.mv_terms.specs.declared.macroblock.Decision.{Decision}
 use Rattle.mv_terms.specs.declared.macroblock.MacroLevels.{MacroLevels}
-use Rattle.mv_macro.specs.Past.{Coded, Start, Given, decisions, levels}
-use Rattle.mv_macro.specs.Answers.{StandsFor}
-use Rattle.mv_slices.specs.Increments.{Increment, Extra}
+use Rattle.mv_macro.specs.Past.{CodedMacroblock, Start, Given, decisions, levels}
+use Rattle.mv_macro.specs.Steps.{StandsFor}
+use Rattle.mv_slices.specs.Increment.{Increment}
+use Rattle.mv_slices.specs.Header.{Extra}
 use Rattle.mv_slices.specs.Slices.{at, SkippedMacroblocks, NextMacroblock, MacroblocksFrom, SliceOf, Slices, RefusesSlices}
 
 -- the greatest number of 32 bits
@@ -31,31 +32,38 @@ abbrev pub lists : ℕ → List Decision → List MacroLevels → Lists
 lists place d l = record { place = place; decisions = d; levels = l }
 
 -- behind those that were read these macroblocks are read too, the latest first
-pub record Adds (old : Lists) (past : List Coded) (new : Lists) : Type 0 where
+pub record Adds (old : Lists) (past : List CodedMacroblock) (new : Lists) : Type 0 where
   pub place : new.place ≡ old.place + length past
   pub decisions : take new.place new.decisions ≡ take old.place old.decisions ++ decisions (reverse past)
   pub levels : take new.place new.levels ≡ take old.place old.levels ++ levels (reverse past)
 
 -- these macroblocks of a slice are read: the state stands for them, and the lists have them
-abbrev pub AreRead : Head → Start → Lists → List Coded → Given → Lists → Type 0
+abbrev pub AreRead : Head → Start → Lists → List CodedMacroblock → Given → Lists → Type 0
 AreRead head start old past state new = StandsFor state head start past × Adds old past new
 
 -- what deciding so many skipped macroblocks answers, whatever was read of the slice before
 abbrev pub Skips : Head → ℕ → Given → Lists → Given → Lists → Result (Unit {0}) Why → Type 0
 Skips head count state s next t (Ok _) =
-    (start : Start) (old : Lists) (past : List Coded) → AreRead head start old past state s
-    → (now : List Coded) × ((bits : List Bool) → SkippedMacroblocks head start count past bits (Ok (now, bits))) × AreRead head start old now next t
+    (start : Start) (old : Lists) (past : List CodedMacroblock) → AreRead head start old past state s
+    → (now : List CodedMacroblock)
+    × ((bits : List Bool) → SkippedMacroblocks head start count past bits (Ok (now, bits)))
+    × AreRead head start old now next t
 Skips head count state s next t (Err why) =
-    (start : Start) (old : Lists) (past : List Coded) → AreRead head start old past state s → (bits : List Bool) → SkippedMacroblocks head start count past bits (Err why)
+    (start : Start) (old : Lists) (past : List CodedMacroblock) → AreRead head start old past state s
+    → (bits : List Bool) → SkippedMacroblocks head start count past bits (Err why)
 
 abbrev pub RefusesNext : Head → List Bool → Given → Lists → Why → Type 0
-RefusesNext head bits state s why = (start : Start) (old : Lists) (past : List Coded) → AreRead head start old past state s → NextMacroblock head start past bits (Err why)
+RefusesNext head bits state s why =
+    (start : Start) (old : Lists) (past : List CodedMacroblock) → AreRead head start old past state s
+    → NextMacroblock head start past bits (Err why)
 
 -- what reading an increment and the macroblocks up to the one behind it answers: the place behind that
 abbrev pub ReadsNext : Head → List Bool → Given → Lists → List Bool → Given → List Decision → List MacroLevels → Result ℕ Why → Type 0
 ReadsNext head bits state s rest next d l (Ok place) =
-    (start : Start) (old : Lists) (past : List Coded) → AreRead head start old past state s
-    → (now : List Coded) × NextMacroblock head start past bits (Ok (now, rest)) × AreRead head start old now next (lists place d l)
+    (start : Start) (old : Lists) (past : List CodedMacroblock) → AreRead head start old past state s
+    → (now : List CodedMacroblock)
+    × NextMacroblock head start past bits (Ok (now, rest))
+    × AreRead head start old now next (lists place d l)
 ReadsNext head bits state s rest next d l (Err why) = RefusesNext head bits state s why
 
 -- where the next macroblock stands behind those that were read
@@ -67,13 +75,19 @@ pub record GoesForward (head : Head) (state : Given) (place : ℕ) (next : Given
 
 -- what reading the macroblocks of a slice answers: the place behind the last one
 abbrev pub ReadsMacroblocks : Head → Start → List Bool → Lists → List Decision → List MacroLevels → Result ℕ Why → Type 0
-ReadsMacroblocks head start bits old d l (Ok place) = (past : List Coded) × MacroblocksFrom head start (at [] bits) (Ok past) × Adds old past (lists place d l)
+ReadsMacroblocks head start bits old d l (Ok place) =
+    (past : List CodedMacroblock)
+    × MacroblocksFrom head start (at [] bits) (Ok past)
+    × Adds old past (lists place d l)
 ReadsMacroblocks head start bits old d l (Err why) = MacroblocksFrom head start (at [] bits) (Err why)
 
 -- what reading the slice of an element answers: how many macroblocks of the picture are covered behind it
 abbrev pub ReadsSlice : Head → List ℕ → Lists → List Decision → List MacroLevels → Result ℕ Why → Type 0
 ReadsSlice head element old d l (Ok covered) =
-    (past : List Coded) × (rest : List Bool) × SliceOf head old.place element (Ok (past, rest)) × Adds old past (lists covered d l)
+    (past : List CodedMacroblock)
+    × (rest : List Bool)
+    × SliceOf head old.place element (Ok (past, rest))
+    × Adds old past (lists covered d l)
 ReadsSlice head element old d l (Err why) = SliceOf head old.place element (Err why)
 
 -- what is read of the slices of a picture: their decisions and levels, or the first refusal
