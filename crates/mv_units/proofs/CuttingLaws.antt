@@ -4,9 +4,10 @@ use Rattle.std.proofs.lemmas.List.{length-drop, append-nil, append_assoc, take-a
 use Rattle.mv_terms.specs.declared.status.Why.{Why}
 use Rattle.mv_units.specs.declared.walk.Found.{Found}
 use Rattle.mv_units.specs.declared.walk.Next.{Next}
-use Rattle.mv_units.specs.declared.walk.Next.TheVariants.{Open, Ready, Refused}
+use Rattle.mv_units.specs.declared.walk.Next.TheVariants.{More, Ready, Refused}
 use Rattle.mv_units.specs.declared.cutter.Cut.TheVariants as cuts
-use Rattle.mv_units.specs.Units.{UnitLists, Units, Fed, next_of, cut_at, cut_of, taken, unit_of, behind, found_of, ready_unit, behind_ready, in_front, units_by, first_units, units_left, units_of, nothing_fed, with_more, StandsFor, Settles}
+use Rattle.mv_terms.specs.UnitLists.{UnitLists}
+use Rattle.mv_units.specs.Units.{Units, Fed, next_of, cut_at, cut_of, taken, unit_of, behind, found_of, ready_unit, behind_ready, in_front, units_by, first_units, units_left, units_of, nothing_fed, with_more, StandsFor, Settles}
 use Rattle.mv_units.proofs.NextLaws.{ready_fits, stays_decided}
 use Rattle.mv_units.proofs.UnitTakes.{ready_takes}
 
@@ -16,7 +17,7 @@ no_units refusal = record { units = []; refusal = refusal }
 -- any number of units that is enough is enough
 enough_by : (n m : ℕ) (fed : Fed) (r : Next) → next_of fed ≡ r → ((f : Found) → next_of fed ≡ Ready f → first_units n (behind fed f) ≡ first_units m (behind fed f)) →
     units_by r fed.bytes (λ found. first_units n (behind fed found)) ≡ units_by r fed.bytes (λ found. first_units m (behind fed found))
-enough_by n m fed Open is later = refl
+enough_by n m fed More is later = refl
 enough_by n m fed (Refused why) is later = refl
 enough_by n m fed (Ready f) is later = ap (λ (us : Units). in_front (unit_of fed.bytes f) us) (later f is)
 
@@ -44,21 +45,21 @@ units_left_ready fed f is =
     units_left_by fed ∙ ap (λ (r : Next). units_by r fed.bytes (λ found. first_units (length fed.bytes) (behind fed found))) is
     ∙ ap (λ (us : Units). in_front (unit_of fed.bytes f) us) same
 
-pub units_left_open : (fed : Fed) → next_of fed ≡ Open → units_left fed ≡ record { units = []; refusal = None }
+pub units_left_open : (fed : Fed) → next_of fed ≡ More → units_left fed ≡ record { units = []; refusal = None }
 units_left_open fed is = units_left_by fed ∙ ap (λ (r : Next). units_by r fed.bytes (λ found. first_units (length fed.bytes) (behind fed found))) is
 
 pub units_left_refused : (fed : Fed) (why : Why) → next_of fed ≡ Refused why → units_left fed ≡ record { units = []; refusal = Some why }
 units_left_refused fed why is = units_left_by fed ∙ ap (λ (r : Next). units_by r fed.bytes (λ found. first_units (length fed.bytes) (behind fed found))) is
 
 -- what was decided, with all that may come
-decided_by : (closed : Bool) (fed : Fed) (more : List ℕ) (r : Next) → fed.closed ≡ closed → next_of fed ≡ r → (r ≡ Open → ⊥) → (fed.closed ≡ true → more ≡ []) → next_of (with_more fed more) ≡ r
+decided_by : (closed : Bool) (fed : Fed) (more : List ℕ) (r : Next) → fed.closed ≡ closed → next_of fed ≡ r → (r ≡ More → ⊥) → (fed.closed ≡ true → more ≡ []) → next_of (with_more fed more) ≡ r
 decided_by true fed more r ends is other none =
     ap (λ (x : List ℕ). next_of (record fed { bytes = fed.bytes ++ x; closed = true })) (none ends)
     ∙ ap (λ (x : List ℕ). next_of (record fed { bytes = x; closed = true })) (append-nil fed.bytes)
     ∙ ap (λ (b : Bool). next_of (record fed { closed = b })) (sym ends) ∙ is
 decided_by false fed more r ends is other none = stays_decided fed ends (λ e. other (sym is ∙ e)) true more ∙ is
 
-pub decided_with : (fed : Fed) (more : List ℕ) (r : Next) → next_of fed ≡ r → (r ≡ Open → ⊥) → (fed.closed ≡ true → more ≡ []) → next_of (with_more fed more) ≡ r
+pub decided_with : (fed : Fed) (more : List ℕ) (r : Next) → next_of fed ≡ r → (r ≡ More → ⊥) → (fed.closed ≡ true → more ≡ []) → next_of (with_more fed more) ≡ r
 decided_with fed more r is other none = decided_by fed.closed fed more r refl is other none
 
 -- a unit is the same, whatever comes
@@ -75,8 +76,8 @@ unit_same bytes more f le =
     rw (one, two, a, b, c) refl
 
 found_by : (closed : Bool) (r : Next) → cut_at closed r ≡ cuts.Ready → r ≡ Ready (found_of r)
-found_by true Open is = absurd cc
-found_by false Open is = absurd cc
+found_by true More is = absurd cc
+found_by false More is = absurd cc
 found_by closed (Ready f) is = refl
 found_by closed (Refused why) is = absurd cc
 
@@ -115,15 +116,15 @@ stands_for_next fed bytes let_go is old more none =
     ∙ ap (λ (us : List UnitLists). record later { units = us }) (sym (append_assoc let_go (unit_of fed.bytes f ∷ []) later.units))
 
 settled_by : (closed : Bool) (r : Next) (fed : Fed) → fed.closed ≡ closed → next_of fed ≡ r → Settles fed (cut_at closed r)
-settled_by true Open fed ends is = λ bytes let_go old more none.
+settled_by true More fed ends is = λ bytes let_go old more none.
     let nothing : more ≡ [] = none ends in
-    let here : next_of (with_more fed more) ≡ Open =
+    let here : next_of (with_more fed more) ≡ More =
     ap (λ (x : List ℕ). next_of (record fed { bytes = fed.bytes ++ x; closed = true })) nothing
     ∙ ap (λ (x : List ℕ). next_of (record fed { bytes = x; closed = true })) (append-nil fed.bytes)
     ∙ ap (λ (b : Bool). next_of (record fed { closed = b })) (sym ends) ∙ is in
     old more none ∙ ap (λ (us : Units). record us { units = let_go ++ us.units }) (units_left_open (with_more fed more) here)
     ∙ ap (λ (us : List UnitLists). record { units = us; refusal = None }) (append-nil let_go)
-settled_by false Open fed ends is = tt
+settled_by false More fed ends is = tt
 settled_by closed (Ready f) fed ends is = tt
 settled_by closed (Refused why) fed ends is = λ bytes let_go old more none.
     old more none ∙ ap (λ (us : Units). record us { units = let_go ++ us.units }) (units_left_refused (with_more fed more) why (decided_with fed more (Refused why) is (λ e. cc) none))

@@ -1,12 +1,18 @@
 mod CutterLaws
 pub mod CuttingLaws
 mod DecidedLaws
+mod FoundLaws
+mod FoundWalk
+pub mod JudgementLaws
 pub mod NextLaws
 mod OpenElement
+mod Places
 mod ProgressLaws
-pub mod SlicesLaws
+pub mod ShapeLaws
 mod StageLaws
 mod UnitBounds
 pub mod UnitTakes
+mod WalkLaws
 mod WalkSteps
+pub mod WrittenLaws
 mod ZeroLaws

@@ -3,28 +3,31 @@ use Rattle.std.proofs.Common.{◌≡◌, ℕ, ◌-◌, ◌<◌, ◌≤◌, Bool,
 use Rattle.std.specs.List.{concat}
 use Rattle.std.proofs.lemmas.Bool.{cases_lt, cases_Bool, lt-ltb, le-leb, lt-leb, leb-true, ltb-true, eqb-true, ne_eqb, eqb-false, and_parts}
 use Rattle.std.proofs.lemmas.List.{length-append, length-take-le, append-nil, get_or_append_left, take-append-le}
+use Rattle.mv_bits.proofs.ZeroByteLaws.{front_le, front_append_some}
+use Rattle.mv_units.specs.Shape.{part_limit}
+use Rattle.mv_bits.specs.Zeros.{zeros_in_front}
 use Rattle.mv_bits.specs.Elements.{cut}
 use Rattle.mv_bits.proofs.CutLaws.{cut_whole, front_len}
 use Rattle.mv_terms.specs.declared.status.Why.TheVariants.{NoStart, UnitTooLong}
 use Rattle.mv_units.specs.declared.place.Place.TheVariants as places
 use Rattle.mv_units.specs.declared.walk.Found.{Found}
 use Rattle.mv_units.specs.declared.walk.Next.{Next}
-use Rattle.mv_units.specs.declared.walk.Next.TheVariants.{Open, Ready, Refused}
-use Rattle.mv_units.specs.declared.next.Begin.{Begin}
-use Rattle.mv_units.specs.declared.next.Begin.TheVariants as before
-use Rattle.mv_units.specs.Walk.{walk, next_unit, zeros_in_front, zeros_alone, no_parts, part_limit}
+use Rattle.mv_units.specs.declared.walk.Next.TheVariants.{More, Ready, Refused}
+use Rattle.mv_units.specs.declared.next.Before.{Before}
+use Rattle.mv_units.specs.declared.next.Before.TheVariants as before
+use Rattle.mv_units.specs.Walk.{walk, next_unit, zeros_alone, no_parts}
 use Rattle.mv_units.specs.Units.{Fed, next_of, or_too_long, taken, StaysDecided}
-use Rattle.mv_units.proofs.UnitBounds.{front_le, walk_within, unit_within}
-use Rattle.mv_units.proofs.ZeroLaws.{front_append_some, next_start_zeros}
+use Rattle.mv_units.proofs.UnitBounds.{walk_within, unit_within}
+use Rattle.mv_units.proofs.ZeroLaws.{next_start_zeros}
 use Rattle.mv_units.proofs.StageLaws.{front_append_le}
 use Rattle.mv_units.proofs.OpenElement.{take_past}
 use Rattle.mv_units.proofs.DecidedLaws.{walk_decided}
 
-pub none_ready : (closed : Bool) (f : Found) → cond closed (Refused NoStart) Open ≡ Ready f → ⊥
+pub none_ready : (closed : Bool) (f : Found) → cond closed (Refused NoStart) More ≡ Ready f → ⊥
 none_ready true f is = cc
 none_ready false f is = cc
 
-pub next_within : (closed : Bool) (begin : Begin) (bytes : List ℕ) (f : Found) → next_unit closed begin bytes ≡ Ready f → taken f ≤ length bytes
+pub next_within : (closed : Bool) (begin : Before) (bytes : List ℕ) (f : Found) → next_unit closed begin bytes ≡ Ready f → taken f ≤ length bytes
 unfolding next_unit
 next_within closed before.Stream bytes f is =
     let z = zeros_in_front bytes in
@@ -45,12 +48,12 @@ next_within closed before.Stream bytes f is =
         ]
       ]
     ]
-next_within closed before.Unit bytes f is = unit_within closed places.Begin bytes f is
+next_within closed before.Unit bytes f is = unit_within closed places.Later bytes f is
 next_within closed before.Ended [] f is = absurd cc
 next_within closed before.Ended (b ∷ bs) f is = absurd cc
 
 pub or_ready : (next : Next) (f : Found) → or_too_long next ≡ Ready f → next ≡ Ready f
-or_ready Open f is = absurd cc
+or_ready More f is = absurd cc
 or_ready (Ready g) f is = is
 or_ready (Refused why) f is = absurd cc
 
@@ -74,12 +77,12 @@ ready_fits fed f is =
     ]
 
 -- nothing is decided only within the room
-or_open : (next : Next) → or_too_long next ≡ Open → ⊥
-or_open Open is = cc
+or_open : (next : Next) → or_too_long next ≡ More → ⊥
+or_open More is = cc
 or_open (Ready f) is = cc
 or_open (Refused why) is = cc
 
-pub open_fits : (fed : Fed) → next_of fed ≡ Open → length fed.bytes ≤ fed.room
+pub open_fits : (fed : Fed) → next_of fed ≡ More → length fed.bytes ≤ fed.room
 open_fits fed is =
     elim (cases_lt fed.room (length fed.bytes)) [
       | inr fits ↦ fits
@@ -88,10 +91,10 @@ open_fits fed is =
 
 -- ---- what is decided stays decided
 
-open_no_start : (r : Next) → cond false (Refused NoStart) Open ≡ r → (r ≡ Open → ⊥) → ⊥
+open_no_start : (r : Next) → cond false (Refused NoStart) More ≡ r → (r ≡ More → ⊥) → ⊥
 open_no_start r is other = other (sym is)
 
-pub next_decided : (begin : Begin) (bytes : List ℕ) (r : Next) → next_unit false begin bytes ≡ r → (r ≡ Open → ⊥) → (closed : Bool) (more : List ℕ) → next_unit closed begin (bytes ++ more) ≡ r
+pub next_decided : (begin : Before) (bytes : List ℕ) (r : Next) → next_unit false begin bytes ≡ r → (r ≡ More → ⊥) → (closed : Bool) (more : List ℕ) → next_unit closed begin (bytes ++ more) ≡ r
 unfolding next_unit
 next_decided before.Stream bytes r is other closed more =
     let z = zeros_in_front bytes in
@@ -117,12 +120,12 @@ next_decided before.Stream bytes r is other closed more =
             ]
       ]
     ]
-next_decided before.Unit bytes r is other closed more = walk_decided (length bytes) places.Begin no_parts bytes r (omega arith) is other closed more
+next_decided before.Unit bytes r is other closed more = walk_decided (length bytes) places.Later no_parts bytes r (omega arith) is other closed more
 next_decided before.Ended [] r is other closed more = absurd (other (sym is))
 next_decided before.Ended (b ∷ bs) r is other closed more = is
 
-or_decided : (r : Next) → (r ≡ Open → ⊥) → or_too_long r ≡ r
-or_decided Open other = absurd (other refl)
+or_decided : (r : Next) → (r ≡ More → ⊥) → or_too_long r ≡ r
+or_decided More other = absurd (other refl)
 or_decided (Ready f) other = refl
 or_decided (Refused why) other = refl
 
@@ -141,7 +144,7 @@ stays_decided fed open' other closed more =
           let tests : leb (length bytes) fed.room ≡ true = le-leb (length bytes) fed.room fits in
           let r = next_unit false fed.begin bytes in
           let now : next_of fed ≡ r = rw (tests, open') refl in
-          let other' : r ≡ Open → ⊥ = λ is. other (now ∙ is) in
+          let other' : r ≡ More → ⊥ = λ is. other (now ∙ is) in
           elim (cases_lt fed.room (length all)) [
             | inr fits' ↦
                 let tests' : leb (length all) fed.room ≡ true = le-leb (length all) fed.room fits' in
@@ -154,11 +157,11 @@ stays_decided fed open' other closed more =
           ]
     ]
 
-at_end_by : (closed : Bool) (fed : Fed) (next : Next) → fed.closed ≡ closed → next ≡ next_of fed → (next ≡ Open → ⊥) → next ≡ next_of (record fed { closed = true })
+at_end_by : (closed : Bool) (fed : Fed) (next : Next) → fed.closed ≡ closed → next ≡ next_of fed → (next ≡ More → ⊥) → next ≡ next_of (record fed { closed = true })
 at_end_by true fed next ends is other = is ∙ ap (λ (b : Bool). next_of (record fed { closed = b })) ends
 at_end_by false fed next ends is other =
     is ∙ sym (stays_decided fed ends (λ e. other (is ∙ e)) true []) ∙ ap (λ (x : List ℕ). next_of (record fed { bytes = x; closed = true })) (append-nil fed.bytes)
 
 -- the end of the stream changes nothing of what is decided
-pub next_at_end : (fed : Fed) (next : Next) → next ≡ next_of fed → (next ≡ Open → ⊥) → next ≡ next_of (record fed { closed = true })
+pub next_at_end : (fed : Fed) (next : Next) → next ≡ next_of fed → (next ≡ More → ⊥) → next ≡ next_of (record fed { closed = true })
 next_at_end fed next is other = at_end_by fed.closed fed next refl is other

@@ -2,17 +2,19 @@
 use Rattle.std.proofs.Common.{◌≡◌, ℕ, ◌-◌, ◌<◌, ◌≤◌, Bool, true, false, ◌&&◌, eqb, ltb, leb, List, [], ◌++◌, length, get_or, drop, refl, sym, ap, ◌∙◌, subst, arith, inl, inr}
 use Rattle.std.proofs.lemmas.Bool.{cases_lt, le-ltb, le-leb, eq-eqb, ne_eqb, and_from}
 use Rattle.std.proofs.lemmas.List.{length-append, length-drop, get_or_append_left, drop-append-le}
+use Rattle.mv_bits.proofs.ZeroByteLaws.{front_le, front_append_some, front_append_all}
+use Rattle.mv_units.specs.Shape.{part_limit}
+use Rattle.mv_bits.specs.Zeros.{zeros_in_front}
 use Rattle.mv_bits.specs.Elements.{cut, next_start}
 use Rattle.mv_bits.proofs.CutLaws.{elements_is}
 use Rattle.mv_units.specs.declared.place.Place.TheVariants as places
 use Rattle.mv_units.specs.declared.walk.Progress.{Progress}
-use Rattle.mv_units.specs.declared.next.Begin.TheVariants as before
+use Rattle.mv_units.specs.declared.next.Before.TheVariants as before
 use Rattle.mv_units.specs.declared.next.Stage.{Stage}
 use Rattle.mv_units.specs.declared.next.Stage.TheVariants.{Zeros, Walk, Behind}
-use Rattle.mv_units.specs.Walk.{walk, next_unit, zeros_in_front, zeros_alone, no_parts, part_limit, is_too_long}
-use Rattle.mv_units.specs.Progress.{Stands, StageStands}
-use Rattle.mv_units.proofs.UnitBounds.{front_le}
-use Rattle.mv_units.proofs.ZeroLaws.{front_append_some, front_append_all, next_start_zeros}
+use Rattle.mv_units.specs.Walk.{walk, next_unit, zeros_alone, no_parts, is_too_long}
+use Rattle.mv_units.specs.Steps.{Stands, StageStands}
+use Rattle.mv_units.proofs.ZeroLaws.{next_start_zeros}
 use Rattle.mv_units.proofs.ProgressLaws.{nothing_seen, seen_nothing, stands_more}
 
 pub front_append_le : (x y : List ℕ) → zeros_in_front x ≤ zeros_in_front (x ++ y)
@@ -29,14 +31,14 @@ stage_more (Walk progress) bytes piece old = stands_more progress bytes piece ol
 stage_more Behind bytes piece old = tt
 
 abbrev pub fresh : Progress
-fresh = record { begin = before.Unit; place = places.Begin; parts = no_parts; at = 0; seen = nothing_seen }
+fresh = record { begin = before.Unit; place = places.Later; parts = no_parts; at = 0; seen = nothing_seen }
 
 stands_nothing : Stands fresh []
 unfolding next_unit
 stands_nothing = record { same = λ closed more. refl; within = omega arith; short = refl; room = omega arith; seen = seen_nothing [] }
 
 -- in front of a unit behind another one
-pub stands_fresh : (progress : Progress) (bytes : List ℕ) → progress ≡ record { begin = before.Unit; place = places.Begin; parts = record { prefix = 0; head = 0; slices = 0; zeros = 0 }; at = 0; seen = record { len = 0; zeros = 0 } } → Stands progress bytes
+pub stands_fresh : (progress : Progress) (bytes : List ℕ) → progress ≡ record { begin = before.Unit; place = places.Later; parts = record { prefix = 0; head = 0; slices = 0; zeros = 0 }; at = 0; seen = record { len = 0; zeros = 0 } } → Stands progress bytes
 stands_fresh progress bytes is = subst (λ (p : Progress). Stands p bytes) (sym is) (stands_more fresh [] bytes stands_nothing)
 
 short_zeros : (n : ℕ) → n ≤ part_limit → is_too_long (zeros_alone n) ≡ false

@@ -1,4 +1,7 @@
-pub mod Progress
+pub mod Profile
+pub mod Shape
+pub mod Steps
 pub mod Table
 pub mod Units
 pub mod Walk
+pub mod Written

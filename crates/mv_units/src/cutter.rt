@@ -1,5 +1,8 @@
+//! The cutter: a stream that comes in pieces, unit by unit.
 ghost use Rattle.std.specs.Prelude.{◌≡◌, ◌≢◌, ◌≤◌, ◌<◌, ◌+◌, ◌∷◌, ◌++◌, ℕ, List, [], true, false, length, take, drop, IfOk, OnOk, OnErr, ◌^◌};
-ghost use Rattle.mv_units.specs.Units.{AreSlices, UnitLists, nothing_fed, cut_at, cut_of, taken, lent_unit, ready_unit, behind_ready, StandsFor, StaysDecided, Settles};
+ghost use Rattle.mv_terms.specs.UnitLists.{UnitLists, lent_unit};
+ghost use Rattle.mv_units.specs.Shape.{IsUnitSlices};
+ghost use Rattle.mv_units.specs.Units.{nothing_fed, cut_at, cut_of, taken, ready_unit, behind_ready, StandsFor, StaysDecided, Settles};
 
 use crate::next::{Stage, at_end, decide, fresh_stage};
 use crate::parts::behind;
@@ -34,7 +37,7 @@ pub struct Cutter {
 
 impl Model for Cutter {
     ghost use Rattle.mv_units.specs.Units.{Fed};
-    ghost use Rattle.mv_units.specs.Progress.{fed_of, IsCut};
+    ghost use Rattle.mv_units.specs.Steps.{fed_of, IsCut};
 
     ghost Value = { Fed };
 
@@ -59,7 +62,7 @@ impl Cutter {
             start: 0,
             stage: Stage::Zeros(0),
             room: STREAM_LIMIT,
-            next: Next::Open,
+            next: Next::More,
             closed: false,
         })
     }
@@ -69,16 +72,18 @@ impl Cutter {
     pub fn feed(&mut self, piece: &[u8]) -> Result<usize, NoMemory>
         requires { self.old.closed ≡ false }
         ensures within { IfOk result (λ n. n ≤ length piece.now) }
-        ensures fed { IfOk result (λ n. self.new ≡ record self.old { bytes = self.old.bytes ++ take n piece.now }) }
+        ensures fed { IfOk result (λ n.
+            self.new ≡ record self.old { bytes = self.old.bytes ++ take n piece.now }) }
         ensures ready { IfOk result (λ n. n < length piece.now → cut_of self.new ≢ Cut.More) }
         ensures err { OnErr result (self.new ≡ self.old) }
         ensures stands { IfOk result (λ n. (bytes : List ℕ) (let_go : List UnitLists) →
-            StandsFor self.old bytes let_go → StandsFor self.new (bytes ++ take n piece.now) let_go) }
+            StandsFor self.old bytes let_go →
+            StandsFor self.new (bytes ++ take n piece.now) let_go) }
     {
-        let Next::Open = self.next else {
+        let Next::More = self.next else {
             return Ok(0);
         };
-        append(&mut self.store, piece)?;
+        self.store.extend_from_slice(piece).map_err(|_| NoMemory)?;
         drop_front(&mut self.store, self.start);
         self.start = 0;
         let (stage, next) = decide(false, self.room, self.stage, &self.store);
@@ -90,7 +95,8 @@ impl Cutter {
     /// Tells the end of the stream.
     pub fn close(&mut self)
         ensures closed { self.new ≡ record self.old { closed = true } }
-        ensures stands { (bytes : List ℕ) (let_go : List UnitLists) → StandsFor self.old bytes let_go → StandsFor self.new bytes let_go }
+        ensures stands { (bytes : List ℕ) (let_go : List UnitLists) →
+            StandsFor self.old bytes let_go → StandsFor self.new bytes let_go }
     {
         let rest = behind(&self.store, self.start);
         let (stage, next) = at_end(self.closed, self.room, self.stage, rest, self.next);
@@ -112,7 +118,8 @@ impl Cutter {
     pub fn unit(&self) -> UnitParts<'_>
         requires { cut_of self.now ≡ Cut.Ready }
         ensures parts { lent_unit result ≡ ready_unit self.now }
-        ensures slices { (bytes : List ℕ) (let_go : List UnitLists) → StandsFor self.now bytes let_go → AreSlices result.slices.now }
+        ensures slices { (bytes : List ℕ) (let_go : List UnitLists) →
+            StandsFor self.now bytes let_go → IsUnitSlices result.slices.now }
     {
         match self.next {
             Next::Ready(found) => {
@@ -138,7 +145,8 @@ impl Cutter {
         ensures left { self.new ≡ behind_ready self.old }
         ensures shorter { length self.new.bytes < length self.old.bytes }
         ensures stands { (bytes : List ℕ) (let_go : List UnitLists) →
-            StandsFor self.old bytes let_go → StandsFor self.new bytes (let_go ++ ready_unit self.old ∷ []) }
+            StandsFor self.old bytes let_go →
+            StandsFor self.new bytes (let_go ++ ready_unit self.old ∷ []) }
     {
         if let Next::Ready(found) = self.next {
             let len = taken(&found);
@@ -156,8 +164,8 @@ fn cut_at(closed: bool, next: Next) -> Cut
     ensures { result ≡ cut_at closed next }
 {
     match next {
-        Next::Open if closed => Cut::Ended,
-        Next::Open => Cut::More,
+        Next::More if closed => Cut::Ended,
+        Next::More => Cut::More,
         Next::Ready(_) => Cut::Ready,
         Next::Refused(why) => Cut::Refused(why),
     }
@@ -168,13 +176,6 @@ fn empty_store(alloc: Global) -> Result<Vec<u8>, NoMemory>
     ensures { IfOk result (λ store. store.items ≡ []) }
 {
     Vec::with_capacity(alloc, FIRST_ROOM).map_err(|_| NoMemory)
-}
-
-fn append(store: &mut Vec<u8>, piece: &[u8]) -> Result<(), NoMemory>
-    ensures ok { OnOk result (store.new.items ≡ store.old.items ++ piece.now) }
-    ensures err { OnErr result (store.new.items ≡ store.old.items) }
-{
-    store.extend_from_slice(piece).map_err(|_| NoMemory)
 }
 
 /// How many bytes of the stream a unit takes.

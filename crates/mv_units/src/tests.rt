@@ -1,3 +1,4 @@
+//! Streams cut wherever they are cut into pieces, and the first byte that offends.
 ghost use Rattle.std.specs.Prelude.{◌≡◌, ◌<◌, false};
 
 use crate::{Cut, Cutter};

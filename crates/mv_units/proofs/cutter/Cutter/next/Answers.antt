@@ -1,7 +1,7 @@
 use Rattle.std.proofs.Common.{◌≡◌, ◌+◌, ◌-◌, ◌++◌, ◌∷◌, [], length, drop, sym, ◌∙◌, ap, subst, arith, ℕ, List}
 use Rattle.std.proofs.lemmas.List.{length-drop}
 use Rattle.mv_units.specs.Units.{Fed, StandsFor, behind_ready, ready_unit}
-use Rattle.mv_units.specs.Progress.{fed_of}
+use Rattle.mv_units.specs.Steps.{fed_of}
 use Rattle.mv_units.proofs.NextLaws.{ready_fits}
 use Rattle.mv_units.proofs.CutterLaws.{cut_made, left_behind}
 use Rattle.mv_units.proofs.CuttingLaws.{stands_for_next}

@@ -1,10 +1,12 @@
 use Rattle.std.proofs.Common.{◌≡◌, length, take, drop, sym, ◌∙◌, ap, subst, arith, ℕ, List}
 use Rattle.std.proofs.lemmas.List.{length-drop}
 use Rattle.mv_units.specs.declared.walk.Next.{Next}
-use Rattle.mv_units.specs.Units.{AreSlices, UnitLists, found_of, ready_unit, unit_of}
-use Rattle.mv_units.specs.Progress.{fed_of}
+use Rattle.mv_terms.specs.UnitLists.{UnitLists}
+use Rattle.mv_units.specs.Shape.{IsUnitSlices}
+use Rattle.mv_units.specs.Units.{found_of, ready_unit, unit_of}
+use Rattle.mv_units.specs.Steps.{fed_of}
 use Rattle.mv_units.proofs.NextLaws.{ready_fits}
-use Rattle.mv_units.proofs.SlicesLaws.{ready_has_slices}
+use Rattle.mv_units.proofs.ShapeLaws.{ready_has_slices}
 use Rattle.mv_units.proofs.cutter.Cutter.unit.Goals as goal
 
 pub split_at-requires : goal.split_at-requires
@@ -51,4 +53,4 @@ returns-clause-slices c = λ bytes let_go old.
     let slices : c.split_at-in-Ready-2.result.0.now ≡ take p.slices (drop p.head (drop p.prefix fed.bytes)) = c.split_at-in-Ready-2.ensures.front ∙ ap (λ (x : List ℕ). take p.slices x) behind_head in
     let made : unit_of fed.bytes c.in-Ready.found ≡ ready_unit c.args.self.now =
     rw (← c.self.view_is) (ap (λ (n : Next). unit_of fed.bytes (found_of n)) (sym (sym c.self.invariant.answer ∙ c.in-Ready.is))) in
-    subst (λ (x : List ℕ). AreSlices x) (sym (slices ∙ ap (λ (u : UnitLists). u.slices) made)) (ready_has_slices c.args.self.now bytes let_go c.requires old)
+    subst (λ (x : List ℕ). IsUnitSlices x) (sym (slices ∙ ap (λ (u : UnitLists). u.slices) made)) (ready_has_slices c.args.self.now bytes let_go c.requires old)
