@@ -1,4 +1,6 @@
 pub mod Painted
 pub mod Laid
-pub mod Extension
 pub mod PictureLemmas
+pub mod ResidualLemmas
+pub mod PredictionLemmas
+pub mod LocalityLaws

@@ -7,7 +7,8 @@ use Rattle.mv_planes.specs.declared.picture.Plane.{Plane}
 use Rattle.mv_planes.specs.Planes.{Planes, SameSize, SamePlace, with_sample, sample_of, IsInside, IsWhole}
 use Rattle.mv_planes.proofs.Places.{size-with_sample, inside_of_size, whole_of_size, sample_of-with_sample_same, sample_of-with_sample_other}
 use Rattle.mv_planes.specs.Lent.{Part, column, line}
-use Rattle.mv_recon.specs.Paint.{painted}
+use Rattle.mv_planes.specs.Layout.{PartInside}
+use Rattle.mv_recon.specs.Steps.{painted}
 
 -- one sample more
 pub painted_more : (f : Planes) (part : Part) (values : List ℕ) (row col : ℕ) → col < 8 → painted f part values (8 * row + col + 1) ≡ with_sample (painted f part values (8 * row + col)) part.plane (column part col) (line part row) (slice_index values (8 * row + col))
@@ -32,10 +33,6 @@ pub size-painted : (f : Planes) (part : Part) (values : List ℕ) (n : ℕ) → 
 unfolding painted
 size-painted f part values zero = record { wide = refl; high = refl; count = refl }
 size-painted f part values (suc n) = size-with_sample f (painted f part values n) part.plane (column part (n % 8)) (line part (n / 8)) (slice_index values n) (size-painted f part values n)
-
--- all its samples lie in the plane
-abbrev pub PartInside : Planes → Part → Type 0
-PartInside f part = (row col : ℕ) → row < 8 → col < 8 → IsInside f part.plane (column part col) (line part row)
 
 -- a place of no sample of the part
 abbrev pub Apart : Part → Plane → ℕ → ℕ → Type 0

@@ -1,35 +1,25 @@
+//! Pictures of intra macroblocks whose samples were added up outside, in whole numbers.
 ghost use Rattle.std.specs.Prelude.{true, ◌≡◌, ◌+◌, ◌*◌, ◌≤◌, IfOk};
 ghost use Rattle.mv_planes.specs.Planes.{IsInside};
 ghost use Rattle.mv_terms.specs.Ranges.{HasLegalScales};
 
 use crate::reconstruct_intra;
 use mv_planes::{Picture, Plane};
-use mv_terms::{Decision, Head, MacroLevels, Matrices, NoMemory, PicType, Vector};
+use mv_terms::{Decision, Head, MacroLevels, Matrices, NoMemory, PicType};
 use std::alloc::Global;
 use std::process::Abort;
 use std::test::Fail;
-
-const NO_LEVELS: MacroLevels = MacroLevels {
-    blocks: [[0; 64]; 6],
-};
 
 fn decision(field_dct: bool) -> Decision
     ensures intra { result.intra ≡ true }
     ensures scales { HasLegalScales result }
 {
     Decision {
-        slice_start: false,
-        skipped: false,
-        quant: false,
         intra: true,
-        forward: false,
-        backward: false,
         field_dct,
-        field_motion: false,
         scale: 6,
-        selects: [[false; 2]; 2],
-        vectors: [[Vector { x: 0, y: 0 }; 2]; 2],
         head_scale: 6,
+        ..Decision::NONE
     }
 }
 
@@ -100,7 +90,7 @@ fn nonzero(pic: &Picture, plane: Plane) -> usize {
 
 #[test]
 fn a_first_level_alone_gives_a_flat_block_in_its_own_plane(rt: HostRuntime) -> Result<(), Fail> {
-    let mut levels = [NO_LEVELS; 2];
+    let mut levels = [MacroLevels::NONE; 2];
     levels[0].blocks[1][0] = 256;
     levels[1].blocks[4][0] = 100;
     levels[1].blocks[5][0] = 511;
@@ -128,7 +118,7 @@ const WAVE: [u8; 64] = [
 ];
 
 fn wave() -> [MacroLevels; 2] {
-    let mut levels = [NO_LEVELS; 2];
+    let mut levels = [MacroLevels::NONE; 2];
     levels[1].blocks[2][0] = 230;
     levels[1].blocks[2][10] = 25;
     levels

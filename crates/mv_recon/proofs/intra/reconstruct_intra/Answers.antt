@@ -1,9 +1,11 @@
 use Rattle.std.proofs.Common.{arith, refl, ◌∙◌, ◌<◌, ◌+◌, ◌*◌, ◌≡◌, List, replicate}
 use Rattle.std.specs.Prelude.{ℤ, pos}
 use Rattle.mv_planes.specs.declared.picture.Plane.TheVariants.{Y, Cb, Cr}
-use Rattle.mv_recon.specs.Pictures.{CodedPicture, no_prediction}
-use Rattle.mv_recon.proofs.PictureLemmas.{HasBlocks, entry_of_zeros, block_step, all_blocks, size_stays}
-use Rattle.mv_recon.proofs.reconstruct_intra.Goals as goal
+use Rattle.mv_terms.specs.CodedPicture.{CodedPicture}
+use Rattle.mv_quant.proofs.MacroblockLemmas.{entry_of_zeros}
+use Rattle.mv_recon.specs.Pictures.{no_prediction}
+use Rattle.mv_recon.proofs.PictureLemmas.{HasBlocks, block_step, all_blocks, size_stays}
+use Rattle.mv_recon.proofs.intra.reconstruct_intra.Goals as goal
 
 -- the prediction of each block
 abbrev zeros : List ℤ
@@ -14,7 +16,7 @@ luma-preserved c =
     let coded : CodedPicture = record { head = c.args.head.now; decisions = c.args.decisions.now; levels = c.args.levels.now } in
     let wide = c.from-wide.ensures ∙ c.mb_wide.ensures.value in
     let down : c.rows.mb_y < c.args.to.now.mb_high = omega (arith, c.rows-test.true, c.from-high.ensures, c.mb_high.ensures.value) in
-    block_step no_prediction coded c.args.to.now c.luma.to c.put_luma.new.to Y c.from-wide.result c.macroblocks.mb_x c.rows.mb_y c.luma.b _ _ c.kind_of-kind.result _ zeros _ c.mb_wide.ensures.whole c.luma-test.true wide c.requires.wide c.macroblocks-test.true down refl c.kind_of-kind.ensures.kind refl entry_of_zeros c.samples_of-luma.ensures c.put_luma.ensures (omega arith) c.luma.invariant
+    block_step no_prediction coded c.args.to.now c.luma.to c.put_luma.new.to Y c.from-wide.result c.macroblocks.mb_x c.rows.mb_y c.luma.b _ _ _ _ c.kind_of-kind.result _ zeros _ c.mb_wide.ensures.whole c.luma-test.true wide c.requires.wide c.requires.high c.requires.macroblocks c.macroblocks-test.true down refl c.kind_of-kind.ensures.kind refl entry_of_zeros c.samples_of-luma.ensures c.put_luma.ensures (omega arith) c.luma.invariant
 
 pub put_chroma-requires-in-macroblocks-clause-across : goal.put_chroma-requires-in-macroblocks-clause-across
 put_chroma-requires-in-macroblocks-clause-across c =
@@ -37,8 +39,8 @@ macroblocks-preserved c =
     let four : c.luma.b ≡ 4 = omega arith in
     let luma : HasBlocks no_prediction coded f c.luma.to (6 * (c.rows.mb_y * w + c.macroblocks.mb_x) + 4) = rw four at c.luma.invariant in
     let blue : HasBlocks no_prediction coded f c.put_chroma.new.to (6 * (c.rows.mb_y * w + c.macroblocks.mb_x) + 5) =
-    block_step no_prediction coded f c.luma.to c.put_chroma.new.to Cb w c.macroblocks.mb_x c.rows.mb_y 4 _ _ c.kind_of-kind.result _ zeros _ whole refl wide c.requires.wide c.macroblocks-test.true down refl c.kind_of-kind.ensures.kind refl entry_of_zeros c.samples_of-blue.ensures c.put_chroma.ensures (omega arith) luma in
-    block_step no_prediction coded f c.put_chroma.new.to c.put_chroma-in-macroblocks.new.to Cr w c.macroblocks.mb_x c.rows.mb_y 5 _ _ c.kind_of-kind.result _ zeros _ whole refl wide c.requires.wide c.macroblocks-test.true down refl c.kind_of-kind.ensures.kind refl entry_of_zeros c.samples_of-red.ensures c.put_chroma-in-macroblocks.ensures (omega arith) blue
+    block_step no_prediction coded f c.luma.to c.put_chroma.new.to Cb w c.macroblocks.mb_x c.rows.mb_y 4 _ _ _ _ c.kind_of-kind.result _ zeros _ whole refl wide c.requires.wide c.requires.high c.requires.macroblocks c.macroblocks-test.true down refl c.kind_of-kind.ensures.kind refl entry_of_zeros c.samples_of-blue.ensures c.put_chroma.ensures (omega arith) luma in
+    block_step no_prediction coded f c.put_chroma.new.to c.put_chroma-in-macroblocks.new.to Cr w c.macroblocks.mb_x c.rows.mb_y 5 _ _ _ _ c.kind_of-kind.result _ zeros _ whole refl wide c.requires.wide c.requires.high c.requires.macroblocks c.macroblocks-test.true down refl c.kind_of-kind.ensures.kind refl entry_of_zeros c.samples_of-red.ensures c.put_chroma-in-macroblocks.ensures (omega arith) blue
 
 pub returns-clause-size : goal.returns-clause-size
 returns-clause-size c = c.rows.invariant.size

@@ -1,7 +1,7 @@
 use Rattle.std.proofs.Common.{◌+◌, ◌*◌}
 use Rattle.mv_recon.specs.Pictures.{no_prediction}
 use Rattle.mv_recon.proofs.PictureLemmas.{HasBlocks}
-use Rattle.mv_recon.proofs.reconstruct_intra.Given as goal
+use Rattle.mv_recon.proofs.intra.reconstruct_intra.Given as goal
 
 abbrev pub invariant-rows : goal.invariant-rows
 invariant-rows l =
