@@ -1,2 +1,6 @@
 pub mod FrameFile
-pub mod Endings
+pub mod Lines
+pub mod Header
+pub mod Frames
+pub mod Reading
+pub mod Steps

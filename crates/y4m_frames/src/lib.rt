@@ -1,121 +1,22 @@
 //! Frame files: Y4M of 4:2:0 frames with 10 bits a sample (`C420p10`).
 //!
-//! Its promise: what is written is the header line and the frames of `specs/FrameFile.antt`, or, where the sink
-//! fails, some front of them.
+//! Two promises. What is written is the header line and the frames of `specs/FrameFile.antt`, or, where the sink
+//! fails, some front of them. What is read are the header and the frames of `specs/Frames.antt`, or, where the bytes
+//! are no frame file, the frames before its first fault, and this fault (`specs/Reading.antt`).
 #![tactic(auto)]
 
-ghost use Rattle.std.specs.Prelude.{◌≡◌, OnOk, OnErr};
-ghost use Rattle.std.specs.Io.KnownBytes.{Appends};
-ghost use Rattle.mv_ends.specs.Causes.{Counts, FailedWrite};
-ghost use Rattle.mv_ends.specs.Moves.{AppendsFront};
-ghost use Rattle.y4m_frames.specs.FrameFile.{header_line, frame, scan};
-
-use itoa::Buffer;
-use mv_ends::{Failed, Sink, send_all};
-use mv_terms::FrameHeader;
-
-fn scan(progressive: bool, bottom_first: bool) -> &'static str
-    ensures { result.now ≡ scan progressive bottom_first }
-{
-    match (progressive, bottom_first) {
-        (true, _) => "p",
-        (false, true) => "b",
-        (false, false) => "t",
-    }
-}
-
-/// Writes the header line of a frame file. It fails only where the sink does, and then a proper front of the line
-/// was written.
-pub fn write_header<O: Sink>(header: &FrameHeader, out: &mut O) -> Result<(), Failed>
-    ensures sent { OnOk result (Appends (O.written out.old) (O.written out.new) (header_line header.now)) }
-    ensures front { OnErr result (AppendsFront (O.written out.old) (O.written out.new) (header_line header.now)) }
-    ensures same_room { O.room out.new ≡ O.room out.old }
-    ensures count { Counts (O.faults out.old) (O.faults out.new) (O.room out.old) (O.written out.old) (O.written out.new) }
-    ensures failed { OnErr result (FailedWrite (O.faults out.old) (O.faults out.new) (O.room out.old) (O.written out.old) (O.written out.new)) }
-{
-    let (mut wide, mut high) = (Buffer::new(), Buffer::new());
-    let (mut frames, mut seconds) = (Buffer::new(), Buffer::new());
-    send_all(
-        out,
-        &[
-            "YUV4MPEG2 W".as_bytes(),
-            wide.format(header.wide).as_bytes(),
-            " H".as_bytes(),
-            high.format(header.high).as_bytes(),
-            " F".as_bytes(),
-            frames.format(header.rate_num).as_bytes(),
-            ":".as_bytes(),
-            seconds.format(header.rate_den).as_bytes(),
-            " I".as_bytes(),
-            scan(header.progressive, header.bottom_first).as_bytes(),
-            " A0:0 C420p10\n".as_bytes(),
-        ],
-    )
-}
-
-/// Writes a frame, whose samples are 16-bit numbers with the low byte first: Y, Cb and Cr, each in raster order. It
-/// fails only where the sink does, and then a proper front of the frame was written.
-pub fn write_frame<O: Sink>(samples: &[u8], out: &mut O) -> Result<(), Failed>
-    ensures sent { OnOk result (Appends (O.written out.old) (O.written out.new) (frame samples.now)) }
-    ensures front { OnErr result (AppendsFront (O.written out.old) (O.written out.new) (frame samples.now)) }
-    ensures same_room { O.room out.new ≡ O.room out.old }
-    ensures count { Counts (O.faults out.old) (O.faults out.new) (O.room out.old) (O.written out.old) (O.written out.new) }
-    ensures failed { OnErr result (FailedWrite (O.faults out.old) (O.faults out.new) (O.room out.old) (O.written out.old) (O.written out.new)) }
-{
-    send_all(out, &["FRAME\n".as_bytes(), samples])
-}
-
+mod ahead;
+mod frame;
+mod halt;
+mod header;
+mod reader;
 #[cfg(test)]
-mod tests {
-    use super::*;
-    use mv_ends::CleanSink;
-    use std::test::Fail;
+mod tests;
+mod words;
+mod write;
 
-    fn header(progressive: bool, bottom_first: bool) -> FrameHeader {
-        FrameHeader {
-            wide: 720,
-            high: 576,
-            progressive,
-            bottom_first,
-            rate_num: 30000,
-            rate_den: 1001,
-        }
-    }
-
-    #[test]
-    fn the_header_line_names_size_rate_and_scan(rt: HostRuntime) -> Result<(), Fail> {
-        let lines: [(bool, bool, &[u8]); 3] = [
-            (
-                true,
-                false,
-                b"YUV4MPEG2 W720 H576 F30000:1001 Ip A0:0 C420p10\n",
-            ),
-            (
-                false,
-                false,
-                b"YUV4MPEG2 W720 H576 F30000:1001 It A0:0 C420p10\n",
-            ),
-            (
-                false,
-                true,
-                b"YUV4MPEG2 W720 H576 F30000:1001 Ib A0:0 C420p10\n",
-            ),
-        ];
-        for (progressive, bottom_first, line) in lines {
-            let mut out = CleanSink::with_room(rt.alloc(), 100)?;
-            let sent = write_header(&header(progressive, bottom_first), &mut out);
-            assert!(rt; sent.is_ok());
-            assert_eq!(rt; out.bytes(), line);
-        }
-        Ok(())
-    }
-
-    #[test]
-    fn a_full_sink_keeps_the_front_of_a_frame(rt: HostRuntime) -> Result<(), Fail> {
-        let mut out = CleanSink::with_room(rt.alloc(), 9)?;
-        assert!(rt; write_frame(&[1, 2], &mut out).is_ok());
-        assert!(rt; write_frame(&[3, 0], &mut out).is_err());
-        assert_eq!(rt; out.bytes(), b"FRAME\n\x01\x02F".as_slice());
-        Ok(())
-    }
-}
+pub use ahead::read_all;
+pub use halt::Halt;
+pub use reader::{FrameReader, holds_law, stands_law, written_law};
+pub use words::{first_word, number};
+pub use write::{write_frame, write_header};

@@ -1,0 +1,15 @@
+pub mod ShelfLemmas
+pub mod AheadLemmas
+pub mod LineLemmas
+pub mod NextLemmas
+pub mod LineExits
+pub mod SampleLemmas
+pub mod SampleExits
+pub mod ReaderLemmas
+pub mod WordLemmas
+pub mod NumberLemmas
+pub mod TokenLemmas
+pub mod HeaderExits
+pub mod FileLaws
+pub mod OnlyLaws
+pub mod HeaderLaws

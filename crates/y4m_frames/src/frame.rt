@@ -1,0 +1,165 @@
+//! Reads a frame of what is left of a frame file.
+ghost use Rattle.std.specs.Prelude.{◌≡◌, ◌≢◌, Err, ◌+◌, ◌-◌, ◌*◌, ◌<◌, ◌≤◌, ◌^◌, ℕ, List, [], ◌++◌, length, take, drop, min, IfOk, IfNone, IfSome, OnOk, OnErr, IsErrOf};
+ghost use Rattle.std.specs.Option.{ForSome};
+ghost use Rattle.std.specs.Io.KnownBytes.{Consumes, prepend_known};
+ghost use Rattle.mv_ends.specs.Causes.{RoseForSelected};
+ghost use Rattle.mv_ends.specs.Shelves.{KeepsShelf};
+ghost use Rattle.y4m_frames.specs.Frames.{is_frame_line, are_samples};
+ghost use Rattle.y4m_frames.specs.Steps.{TakesLine, LineTells, TakesSamples, SamplesTell, TakesFrame, FrameTells};
+
+use crate::ahead::Ahead;
+use crate::halt::Halt;
+use mv_ends::Shelf;
+use mv_terms::FrameFault;
+
+/// Takes a frame, where so many bytes may belong to the file, and says how many bytes it has, with its line; None at the
+/// end.
+#[tactic(auto, using(crate::proofs::ShelfLemmas::keeps_trans))]
+pub(crate) fn take_frame<S: Shelf>(
+    ahead: &mut Ahead,
+    shelf: &mut S,
+    count: u64,
+    room: u64,
+    samples: &mut [u8],
+) -> Result<Option<u64>, Halt>
+    ensures frame { IfOk result (λ found. IfSome found (λ taken. TakesFrame taken (length samples.old) room
+        (prepend_known ahead.old (S.rest shelf.old)) (prepend_known ahead.new (S.rest shelf.new))
+        samples.new)) }
+    ensures ends { IfOk result (λ found. IfNone found (Consumes (prepend_known ahead.old (S.rest shelf.old))
+        (prepend_known ahead.new (S.rest shelf.new)) [])) }
+    ensures told { ForSome (prepend_known ahead.old (S.rest shelf.old)) (λ s. FrameTells (length
+        samples.old) count room s result) }
+    ensures most { length ahead.new ≤ 65536 }
+    ensures memory { result ≢ Err Halt.NoMemory }
+    ensures failed { IsErrOf result Halt.Read → RoseForSelected (S.selected shelf.old) (S.read_faults
+        shelf.old) (S.read_faults shelf.new) }
+    ensures chosen { S.selected shelf.new ≡ S.selected shelf.old }
+    ensures keeps { KeepsShelf S.named S.open_faults S.read_faults shelf.old shelf.new }
+{
+    let line = match take_line(ahead, shelf, count, room) {
+        Ok(Some(line)) => line,
+        Ok(None) => return Ok(None),
+        Err(halt) => return Err(halt),
+    };
+    match take_samples(ahead, shelf, count, room - line, samples) {
+        Ok(()) => Ok(Some(line + samples.len() as u64)),
+        Err(halt) => Err(halt),
+    }
+}
+
+// Whether a line, without its line feed, is that of a frame.
+fn is_frame_line(text: &[u8]) -> bool
+    ensures { result ≡ is_frame_line text.now }
+{
+    text == b"FRAME".as_slice() || &text[..text.len().min(6)] == b"FRAME ".as_slice()
+}
+
+// Whether no sample is above 1023.
+fn are_samples(bytes: &[u8]) -> bool
+    ensures { result ≡ are_samples bytes.now }
+{
+    let mut greatest = 0;
+    for i in 0..bytes.len() / 2 {
+        greatest = bytes[2 * i + 1].max(greatest);
+    }
+    greatest <= 3
+}
+
+const LINE_LIMIT: usize = 256;
+
+// Takes the line of a frame, and says how many bytes it has; None at the end.
+fn take_line<S: Shelf>(
+    ahead: &mut Ahead,
+    shelf: &mut S,
+    count: u64,
+    room: u64,
+) -> Result<Option<u64>, Halt>
+    ensures line { IfOk result (λ found. IfSome found (λ line. TakesLine line room (prepend_known ahead.old
+        (S.rest shelf.old)) (prepend_known ahead.new (S.rest shelf.new)))) }
+    ensures ends { IfOk result (λ found. IfNone found (Consumes (prepend_known ahead.old (S.rest shelf.old))
+        (prepend_known ahead.new (S.rest shelf.new)) [])) }
+    ensures told { ForSome (prepend_known ahead.old (S.rest shelf.old)) (λ s. LineTells count room s result) }
+    ensures most { length ahead.new ≤ 65536 }
+    ensures memory { result ≢ Err Halt.NoMemory }
+    ensures failed { IsErrOf result Halt.Read → RoseForSelected (S.selected shelf.old) (S.read_faults
+        shelf.old) (S.read_faults shelf.new) }
+    ensures chosen { S.selected shelf.new ≡ S.selected shelf.old }
+    ensures keeps { KeepsShelf S.named S.open_faults S.read_faults shelf.old shelf.new }
+{
+    let found = match ahead.line(shelf, LINE_LIMIT) {
+        Ok(found) => found,
+        Err(_) => return Err(Halt::Read),
+    };
+    let held = ahead.bytes();
+    if held.is_empty() {
+        if count == 0 {
+            return Err(Halt::Fault(FrameFault::NoFrames));
+        }
+        return Ok(None);
+    }
+    match found {
+        None => {
+            if room < LINE_LIMIT as u64 && room < held.len() as u64 {
+                return Err(Halt::Fault(FrameFault::TooLong(count)));
+            }
+            Err(Halt::Fault(FrameFault::BadFrame(count)))
+        }
+        Some(text) => {
+            if room <= text as u64 {
+                return Err(Halt::Fault(FrameFault::TooLong(count)));
+            }
+            if !is_frame_line(&held[..text]) {
+                return Err(Halt::Fault(FrameFault::BadFrame(count)));
+            }
+            ahead.skip(text + 1);
+            Ok(Some(text as u64 + 1))
+        }
+    }
+}
+
+// How many bytes of samples to ask for: one more than may belong to the file shows that more follow.
+fn wanted(len: usize, left: u64) -> usize
+    ensures { result ≡ min len (left + 1) }
+{
+    if left < len as u64 {
+        left as usize + 1
+    } else {
+        len
+    }
+}
+
+// Takes the samples of a frame, where so many bytes more may belong to the file.
+fn take_samples<S: Shelf>(
+    ahead: &mut Ahead,
+    shelf: &mut S,
+    count: u64,
+    left: u64,
+    samples: &mut [u8],
+) -> Result<(), Halt>
+    ensures samples { OnOk result (TakesSamples left (prepend_known ahead.old (S.rest shelf.old))
+        (prepend_known ahead.new (S.rest shelf.new)) samples.new) }
+    ensures told { ForSome (prepend_known ahead.old (S.rest shelf.old)) (λ s. SamplesTell (length
+        samples.old) count left s result) }
+    ensures most { length ahead.new ≤ 65536 }
+    ensures memory { result ≢ Err Halt.NoMemory }
+    ensures failed { IsErrOf result Halt.Read → RoseForSelected (S.selected shelf.old) (S.read_faults
+        shelf.old) (S.read_faults shelf.new) }
+    ensures chosen { S.selected shelf.new ≡ S.selected shelf.old }
+    ensures keeps { KeepsShelf S.named S.open_faults S.read_faults shelf.old shelf.new }
+{
+    let want = wanted(samples.len(), left);
+    let got = match ahead.fill(shelf, &mut samples[..want]) {
+        Ok(got) => got,
+        Err(_) => return Err(Halt::Read),
+    };
+    if got < want {
+        return Err(Halt::Fault(FrameFault::BadFrame(count)));
+    }
+    if left < want as u64 {
+        return Err(Halt::Fault(FrameFault::TooLong(count)));
+    }
+    if !are_samples(samples) {
+        return Err(Halt::Fault(FrameFault::BadSample(count)));
+    }
+    Ok(())
+}

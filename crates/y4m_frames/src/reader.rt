@@ -1,0 +1,163 @@
+//! Frame files are read, frame by frame.
+ghost use Rattle.std.specs.Prelude.{◌≡◌, ◌≢◌, ◌+◌, ◌*◌, ◌^◌, ◌≤◌, ◌<◌, ℕ, List, [], ◌∷◌, ◌++◌, length, true, false, None, Some, Err, IfOk, IfErr, OnOk, IsErrOf, IsTrue};
+ghost use Rattle.std.specs.Option.{ForSome};
+ghost use Rattle.std.specs.Io.KnownBytes.{Consumes};
+ghost use Rattle.mv_ends.specs.Causes.{RoseForSelected};
+ghost use Rattle.mv_ends.specs.Shelves.{KeepsShelf};
+ghost use Rattle.y4m_frames.specs.declared.halt.Halt.{Halt};
+ghost use Rattle.y4m_frames.specs.declared.halt.Halt.TheVariants as halts;
+ghost use Rattle.y4m_frames.specs.Frames.{frame_len};
+ghost use Rattle.y4m_frames.specs.Reading.{Reading, left_of, StandsFor, Starts, HasNoHeader, Hands, NextTells, StandsForItsFrames, FrameFilesAreRead, OnlyFrameFilesAreRead, WrittenHeadersAreRead};
+
+use crate::ahead::Ahead;
+use crate::frame::take_frame;
+use crate::halt::Halt;
+use crate::header::header_of;
+use mv_ends::Shelf;
+use mv_terms::{FrameFault, FrameHeader};
+use std::alloc::Global;
+use std::marker::Model;
+
+const FILE_LIMIT: u64 = 1 << 44;
+
+const HEADER_LIMIT: usize = 1_024;
+
+/// Reads a frame file, frame by frame.
+#[derive(Drop)]
+pub struct FrameReader {
+    header: FrameHeader,
+    line: Vec<u8>,
+    ahead: Ahead,
+    count: u64,
+    room: u64,
+    failed: Option<Halt>,
+}
+
+impl Model for FrameReader {
+    ghost Value = { Reading };
+
+    ghost view = { λ r. record { header = r.header; line = r.line.items; count = r.count; room = r.room; ahead = r.ahead; failed = r.failed } };
+
+    ghost invariant = { λ r. (r.count + r.room ≤ 2 ^ 44) × (r.failed ≢ Some halts.NoMemory) };
+}
+
+impl FrameReader {
+    /// A reader of the selected input of a shelf, whose header line it reads.
+    pub fn start<S: Shelf>(alloc: Global, shelf: &mut S) -> Result<FrameReader, Halt>
+        ensures starts { IfOk result (λ r. Starts (S.rest shelf.old) (S.rest shelf.new) r) }
+
+        // Where the shelf tells its bytes, a fault is that of their header line.
+        ensures tells { ForSome (S.rest shelf.old) (λ s. IfErr result (λ halt. HasNoHeader s halt)) }
+        ensures read { IsErrOf result Halt.Read → RoseForSelected (S.selected shelf.old) (S.read_faults
+            shelf.old) (S.read_faults shelf.new) }
+        ensures chosen { S.selected shelf.new ≡ S.selected shelf.old }
+        ensures keeps { KeepsShelf S.named S.open_faults S.read_faults shelf.old shelf.new }
+    {
+        let mut ahead = match Ahead::start(alloc) {
+            Ok(ahead) => ahead,
+            Err(_) => return Err(Halt::NoMemory),
+        };
+        let found = match ahead.line(shelf, HEADER_LIMIT) {
+            Ok(found) => found,
+            Err(_) => return Err(Halt::Read),
+        };
+        let text = match found {
+            None => return Err(Halt::Fault(FrameFault::BadHeader)),
+            Some(text) => text,
+        };
+        let held = ahead.bytes();
+        let header = match header_of(&held[..text]) {
+            Ok(header) => header,
+            Err(fault) => return Err(Halt::Fault(fault)),
+        };
+        let line = match Vec::from_slice(alloc, &held[..text + 1]) {
+            Ok(line) => line,
+            Err(_) => return Err(Halt::NoMemory),
+        };
+        ahead.skip(text + 1);
+        Ok(FrameReader {
+            header,
+            line,
+            ahead,
+            count: 0,
+            room: FILE_LIMIT - (text as u64 + 1),
+            failed: None,
+        })
+    }
+
+    /// The meaning of the header line.
+    pub fn header(&self) -> &FrameHeader
+        ensures { result.now ≡ self.now.header }
+    {
+        &self.header
+    }
+
+    /// The header line, with its line feed.
+    pub fn line(&self) -> &[u8]
+        ensures { result.now ≡ self.now.line }
+    {
+        &self.line
+    }
+
+    /// Reads the next frame; false at the end. After an error it answers the same again.
+    #[tactic(auto, using(crate::proofs::ShelfLemmas::keeps_refl))]
+    pub fn next<S: Shelf>(&mut self, shelf: &mut S, frame: &mut [u8]) -> Result<bool, Halt>
+        requires { length frame.old ≡ frame_len self.old.header }
+        // A frame that is handed out stands in front of what was left.
+        ensures hands { IfOk result (λ some. some ≡ true → Hands self.old self.new (S.rest shelf.old) (S.rest
+            shelf.new) frame.new) }
+
+        // At the end nothing is taken.
+        ensures ends { IfOk result (λ some. some ≡ false → Consumes (left_of self.old (S.rest shelf.old))
+            (left_of self.new (S.rest shelf.new)) []) }
+
+        // Where the shelf tells its bytes: at the end, and only there, it answers false, and a fault is the first one.
+        ensures tells { self.old.failed ≡ None → ForSome (left_of self.old (S.rest shelf.old)) (λ s.
+            NextTells self.old s result) }
+        ensures read { IsErrOf result Halt.Read → self.old.failed ≡ None → RoseForSelected (S.selected
+            shelf.old) (S.read_faults shelf.old) (S.read_faults shelf.new) }
+        ensures most { self.old.failed ≡ None → length self.new.ahead ≤ 65536 }
+        ensures memory { result ≢ Err Halt.NoMemory }
+
+        // After an error it answers the same again.
+        ensures stays { IfErr result (λ halt. self.new.failed ≡ Some halt) }
+        ensures again { (halt : Halt) → self.old.failed ≡ Some halt → (result ≡ Err halt) × (self.new ≡
+            self.old) × (S.rest shelf.new ≡ S.rest shelf.old) }
+        ensures runs { OnOk result (self.new.failed ≡ None) }
+        ensures header { (self.new.header ≡ self.old.header) × (self.new.line ≡ self.old.line) }
+        ensures chosen { S.selected shelf.new ≡ S.selected shelf.old }
+        ensures keeps { KeepsShelf S.named S.open_faults S.read_faults shelf.old shelf.new }
+    {
+        if let Some(halt) = self.failed {
+            return Err(halt);
+        }
+        match take_frame(&mut self.ahead, shelf, self.count, self.room, frame) {
+            Ok(None) => Ok(false),
+            Ok(Some(taken)) => {
+                self.count += 1;
+                self.room -= taken;
+                Ok(true)
+            }
+            Err(halt) => {
+                self.failed = Some(halt);
+                Err(halt)
+            }
+        }
+    }
+}
+
+/// Whatever comes, the frames of the file are those that a reader stands for, and then those of what is left.
+pub fn stands_law()
+    ensures { StandsForItsFrames }
+{}
+
+/// A frame file is read as what it holds, and only a frame file is read without a fault.
+pub fn holds_law()
+    ensures read { FrameFilesAreRead }
+    ensures only { OnlyFrameFilesAreRead }
+{}
+
+/// The header line that `write_header` writes is read as its header.
+pub fn written_law()
+    ensures { WrittenHeadersAreRead }
+{}
