@@ -1,0 +1,113 @@
+//! Copies the listed frames of an input.
+ghost use Rattle.std.specs.Prelude.{◌≡◌, ◌≢◌, ◌+◌, ◌<◌, ◌≤◌, ℕ, List, [], ◌++◌, length, Ok, None, Some, OnOk, OnErr, IsErrOf};
+ghost use Rattle.std.specs.Option.{ForSome};
+ghost use Rattle.std.specs.Io.KnownBytes.{Appends};
+ghost use Rattle.mv_ends.specs.Causes.{Counts, FailedWrite, RoseForSelected};
+ghost use Rattle.mv_ends.specs.Sends.{Sends};
+ghost use Rattle.mv_ends.specs.Shelves.{KeepsShelf};
+ghost use Rattle.mv_ends.specs.Moves.{AppendsFront};
+ghost use Rattle.y4m_frames.specs.Frames.{File, file_of, frame_len};
+ghost use Rattle.y4m_frames.specs.Reading.{left_of, StandsFor};
+ghost use Rattle.cut_list.specs.Cut.{listed, line_fault};
+ghost use Rattle.cut_list.specs.Steps.{Grows, piece, listed_piece, Copies, stop_of};
+
+use mv_ends::{Failed, Shelf, Sink, send_all};
+use mv_terms::{FrameFault, LineFault};
+use y4m_frames::{FrameReader, Halt, write_frame};
+
+/// Why a line was not copied whole.
+pub(crate) enum Stop {
+    Fault(LineFault),
+    Read,
+    Write,
+}
+
+/// Copies the frames `from` to `to` of an input that a reader has just begun, behind an opening.
+pub(crate) fn copy_frames<S: Shelf, O: Sink>(
+    reader: &mut FrameReader,
+    shelf: &mut S,
+    from: u32,
+    to: u32,
+    opening: &[u8],
+    frame: &mut [u8],
+    out: &mut O,
+) -> Result<(), Stop>
+    requires runs { reader.old.failed ≡ None }
+    requires frame { length frame.old ≡ frame_len reader.old.header }
+    ensures copies { (past : List ℕ) (file : File) → StandsFor reader.old past [] →
+        ForSome (left_of reader.old (S.rest shelf.old)) (λ s. file_of (past ++ s) ≡ Ok file →
+        Copies opening.now (listed from to file.frames) (O.written out.old) (O.written out.new) result) }
+    ensures grown { Grows (O.written out.old) (O.written out.new) }
+    ensures read { IsErrOf result Stop.Read → RoseForSelected (S.selected shelf.old) (S.read_faults shelf.old) (S.read_faults shelf.new) }
+    ensures write { IsErrOf result Stop.Write → FailedWrite (O.faults out.old) (O.faults out.new) (O.room out.old) (O.written out.old) (O.written out.new) }
+    ensures same_room { O.room out.new ≡ O.room out.old }
+    ensures count { Counts (O.faults out.old) (O.faults out.new) (O.room out.old) (O.written out.old) (O.written out.new) }
+    ensures chosen { S.selected shelf.new ≡ S.selected shelf.old }
+    ensures keeps { KeepsShelf S.named S.open_faults S.read_faults shelf.old shelf.new }
+{
+    let mut count: u64 = 0;
+    'frames: while count <= to as u64 {
+        match reader.next(shelf, frame) {
+            Ok(true) => {}
+            Ok(false) => return Err(Stop::Fault(LineFault::ShortInput)),
+            Err(halt) => return Err(stop_of(halt)),
+        }
+        match write_listed(from as u64, count, opening, frame, out) {
+            Ok(()) => {}
+            Err(_) => return Err(Stop::Write),
+        }
+        count += 1;
+    }
+    Ok(())
+}
+
+// Writes a frame, behind the opening where it is the first.
+fn write_piece<O: Sink>(
+    first: bool,
+    opening: &[u8],
+    samples: &[u8],
+    out: &mut O,
+) -> Result<(), Failed>
+    ensures { Sends O.written O.faults O.room out.old out.new (piece first opening.now samples.now) result }
+{
+    if first {
+        send_all(out, &[opening, "FRAME\n".as_bytes(), samples])
+    } else {
+        write_frame(samples, out)
+    }
+}
+
+// Writes frame `count`, where it is listed.
+fn write_listed<O: Sink>(
+    from: u64,
+    count: u64,
+    opening: &[u8],
+    samples: &[u8],
+    out: &mut O,
+) -> Result<(), Failed>
+    ensures { Sends O.written O.faults O.room out.old out.new (listed_piece from count opening.now samples.now) result }
+{
+    if from <= count {
+        write_piece(count == from, opening, samples, out)
+    } else {
+        Ok(())
+    }
+}
+
+fn line_fault(fault: FrameFault) -> LineFault
+    ensures { result ≡ line_fault (Some fault) }
+{
+    match fault {
+        FrameFault::NoFrames => LineFault::ShortInput,
+        _ => LineFault::Frames(fault),
+    }
+}
+
+fn stop_of(halt: Halt) -> Stop
+    ensures { result ≡ stop_of halt }
+{
+    match halt {
+        Halt::Fault(fault) => Stop::Fault(line_fault(fault)),
+        Halt::Read | Halt::NoMemory => Stop::Read,
+    }
+}

@@ -1,0 +1,145 @@
+//! One line of a cut list.
+ghost use Rattle.std.specs.Prelude.{◌≡◌, ◌≢◌, ◌*◌, ◌≤◌, ℕ, List, [], ◌++◌, length, Ok, None, Some, IfOk, OnOk, OnErr, IsErrOf, IsTrue};
+ghost use Rattle.std.specs.Option.{ForSome};
+ghost use Rattle.mv_ends.specs.Causes.{Counts, FailedWrite, Rose, RoseForSelected};
+ghost use Rattle.mv_ends.specs.Shelves.{KeepsShelf};
+ghost use Rattle.mv_ends.specs.Moves.{input_of};
+ghost use Rattle.y4m_frames.specs.Frames.{file_of, frame_len};
+ghost use Rattle.cut_list.specs.Cut.{same_kind, line_given, first_header};
+ghost use Rattle.cut_list.specs.Steps.{Grows, LineEnds, kind_of, differs, opening_of, not_started, halted_of};
+
+use crate::copy::{Stop, copy_frames};
+use mv_ends::{Shelf, Sink};
+use mv_terms::{FrameHeader, LineFault};
+use std::alloc::{AllocError, Global};
+use y4m_frames::{FrameReader, Halt};
+
+/// Why a line was not written whole.
+pub(crate) enum Halted {
+    Fault(LineFault),
+    Open,
+    Read,
+    Write,
+    NoMemory,
+}
+
+/// Writes the frames that a line lists, of an input whose frames are of the kind of the first line's, if it isn't the
+/// first itself. It answers the header of the first line's input.
+#[tactic(auto, using(crate::proofs::CopyExits::grows_not, std::proofs::lemmas::Grind::common_steps))]
+pub(crate) fn cut_line<S: Shelf, O: Sink>(
+    alloc: Global,
+    name: &str,
+    from: u32,
+    to: u32,
+    first: Option<FrameHeader>,
+    shelf: &mut S,
+    out: &mut O,
+) -> Result<FrameHeader, Halted>
+    ensures ends { ForSome (S.named shelf.old) (λ inputs.
+        LineEnds (line_given first from to (file_of (input_of inputs name.now)))
+        (first_header first (file_of (input_of inputs name.now)))
+        (O.written out.old) (O.written out.new) result) }
+    ensures grown { Grows (O.written out.old) (O.written out.new) }
+    ensures open { IsErrOf result Halted.Open → Rose (S.open_faults shelf.old name.now) (S.open_faults shelf.new name.now) }
+    ensures read { IsErrOf result Halted.Read → Rose (S.read_faults shelf.old name.now) (S.read_faults shelf.new name.now) }
+    ensures write { IsErrOf result Halted.Write → FailedWrite (O.faults out.old) (O.faults out.new) (O.room out.old) (O.written out.old) (O.written out.new) }
+    ensures same_room { O.room out.new ≡ O.room out.old }
+    ensures count { Counts (O.faults out.old) (O.faults out.new) (O.room out.old) (O.written out.old) (O.written out.new) }
+    ensures keeps { KeepsShelf S.named S.open_faults S.read_faults shelf.old shelf.new }
+{
+    match shelf.select(name) {
+        Ok(()) => {}
+        Err(_) => return Err(Halted::Open),
+    }
+    let mut reader = match FrameReader::start(alloc, shelf) {
+        Ok(reader) => reader,
+        Err(halt) => return Err(not_started(halt)),
+    };
+    let header = *reader.header();
+    if differs(first, &header) {
+        return Err(Halted::Fault(LineFault::Differs));
+    }
+    let mut frame = match frame_of(alloc, &header) {
+        Ok(frame) => frame,
+        Err(_) => return Err(Halted::NoMemory),
+    };
+    let line = match Vec::from_slice(alloc, reader.line()) {
+        Ok(line) => line,
+        Err(_) => return Err(Halted::NoMemory),
+    };
+    match copy_frames(
+        &mut reader,
+        shelf,
+        from,
+        to,
+        opening_of(first, &line),
+        &mut frame,
+        out,
+    ) {
+        Ok(()) => Ok(kind_of(first, header)),
+        Err(stop) => Err(halted_of(stop)),
+    }
+}
+
+fn same_kind(a: &FrameHeader, b: &FrameHeader) -> bool
+    ensures { result ≡ same_kind a.now b.now }
+{
+    a.wide == b.wide && a.high == b.high && a.progressive == b.progressive
+}
+
+// Whether this header is of another kind than that of the first line, if it isn't the first itself.
+fn differs(first: Option<FrameHeader>, header: &FrameHeader) -> bool
+    ensures { result ≡ differs first header.now }
+{
+    match first {
+        None => false,
+        Some(first) => !same_kind(&first, header),
+    }
+}
+
+// What stands before the first frame.
+fn opening_of(first: Option<FrameHeader>, line: &[u8]) -> &[u8]
+    ensures { result.now ≡ opening_of first line.now }
+{
+    match first {
+        None => line,
+        Some(_) => &line[..0],
+    }
+}
+
+// The header of line 1's input.
+fn kind_of(first: Option<FrameHeader>, header: FrameHeader) -> FrameHeader
+    ensures { result ≡ kind_of first header }
+{
+    match first {
+        None => header,
+        Some(first) => first,
+    }
+}
+
+fn not_started(halt: Halt) -> Halted
+    ensures { result ≡ not_started halt }
+{
+    match halt {
+        Halt::Fault(fault) => Halted::Fault(LineFault::Frames(fault)),
+        Halt::Read => Halted::Read,
+        Halt::NoMemory => Halted::NoMemory,
+    }
+}
+
+fn halted_of(stop: Stop) -> Halted
+    ensures { result ≡ halted_of stop }
+{
+    match stop {
+        Stop::Fault(fault) => Halted::Fault(fault),
+        Stop::Read => Halted::Read,
+        Stop::Write => Halted::Write,
+    }
+}
+
+fn frame_of(alloc: Global, header: &FrameHeader) -> Result<Vec<u8>, AllocError>
+    ensures { IfOk result (λ v. length v.items ≡ frame_len header.now) }
+{
+    let len = 3 * header.wide as usize * header.high as usize;
+    vec![in alloc; 0; len]
+}
