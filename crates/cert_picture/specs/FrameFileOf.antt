@@ -1,16 +1,14 @@
 -- The frame file that pictures decode to.
-use Rattle.std.specs.Prelude.{◌≡◌, ℕ, List, [], ◌∷◌, ◌++◌, map, All}
-use Rattle.mv_terms.specs.declared.head.PicType.{PicType}
-use Rattle.mv_terms.specs.declared.head.PicType.TheVariants as pic
+use Rattle.std.specs.Prelude.{◌≡◌, ℕ, true, List, [], ◌∷◌, ◌++◌, map, reverse}
+use Rattle.std.specs.List.{flat_map}
 use Rattle.mv_terms.specs.declared.head.Context.{Context}
-use Rattle.mv_terms.specs.Order.{display_order}
+use Rattle.mv_terms.specs.CodedPicture.{CodedPicture, pic_of}
+use Rattle.mv_terms.specs.Order.{display_order, shown_by, held, listed}
+use Rattle.mv_terms.specs.PicTypes.{is_anchor}
 use Rattle.mv_terms.specs.Rates.{frame_header_of}
-use Rattle.mv_recon.specs.Pictures.{CodedPicture, intra_picture}
+use Rattle.mv_recon.specs.Pictures.{intra_picture}
 use Rattle.rec_bury.specs.FrameBytes.{unrecorded}
-use Rattle.y4m_frames.specs.FrameFile.{frame, frame_file}
-
-abbrev pub type_of : CodedPicture → PicType
-type_of coded = coded.head.pic
+use Rattle.y4m_frames.specs.FrameFile.{frame, frame_file, header_line}
 
 -- the sample bytes of the frame of a coded picture, which has no record
 abbrev pub frame_samples : CodedPicture → List ℕ
@@ -19,15 +17,21 @@ frame_samples coded = unrecorded (intra_picture coded)
 -- The header line of the first unit's sequence, and the frames of the coded pictures in the order in which they are
 -- shown. So far all pictures are I pictures, and frames carry no records.
 abbrev pub frame_file_of : Context → List CodedPicture → List ℕ
-frame_file_of context pictures = frame_file (frame_header_of context) (map frame_samples (display_order type_of pictures))
+frame_file_of context pictures = frame_file (frame_header_of context) (map frame_samples (display_order pic_of pictures))
 
--- I pictures are shown in the order in which they are coded.
-abbrev pub IntraIsShownInOrder : Type 0
-IntraIsShownInOrder = (pictures : List CodedPicture) → All (λ coded. type_of coded ≡ pic.I) pictures
-    → display_order type_of pictures ≡ pictures
-
--- The frame file of I pictures grows by a frame for each.
+-- A frame file grows by the frame of an anchor that comes last, whatever the pictures before it are.
 abbrev pub FrameFileGrows : Type 0
 FrameFileGrows = (context : Context) (pictures : List CodedPicture) (last : CodedPicture)
-    → All (λ coded. type_of coded ≡ pic.I) pictures → type_of last ≡ pic.I
+    → is_anchor (pic_of last) ≡ true
     → frame_file_of context (pictures ++ last ∷ []) ≡ frame_file_of context pictures ++ frame (frame_samples last)
+
+-- the frames of these pictures, one after another
+abbrev pub frames : List CodedPicture → List ℕ
+frames pictures = flat_map frame (map frame_samples pictures)
+
+-- A frame file step by step: the header line, the frames of what was shown while the pictures came, the latest first,
+-- and the frame of the anchor that is held then.
+abbrev pub FrameFileIsShown : Type 0
+FrameFileIsShown = (context : Context) (before : List CodedPicture)
+    → frame_file_of context (reverse before)
+    ≡ header_line (frame_header_of context) ++ (frames (shown_by pic_of before) ++ frames (listed (held pic_of before)))

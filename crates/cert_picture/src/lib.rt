@@ -4,13 +4,11 @@
 //! of a stream decode to is `frame_file_of` in `specs/FrameFileOf.antt`.
 #![tactic(auto)]
 
-ghost use Rattle.std.specs.Prelude.{◌≡◌, ◌*◌, OnOk, OnErr, length};
-ghost use Rattle.std.specs.Io.KnownBytes.{Appends};
-ghost use Rattle.mv_ends.specs.Causes.{Counts, FailedWrite};
-ghost use Rattle.mv_ends.specs.Moves.{AppendsFront};
+ghost use Rattle.std.specs.Prelude.{◌≡◌, ◌*◌, length};
+ghost use Rattle.mv_ends.specs.Sends.{Sends};
 ghost use Rattle.rec_bury.specs.FrameBytes.{unrecorded};
 ghost use Rattle.y4m_frames.specs.FrameFile.{frame};
-ghost use Rattle.cert_picture.specs.FrameFileOf.{IntraIsShownInOrder, FrameFileGrows};
+ghost use Rattle.cert_picture.specs.FrameFileOf.{FrameFileGrows, FrameFileIsShown};
 
 use mv_ends::{Failed, Sink};
 use mv_planes::Picture;
@@ -25,22 +23,19 @@ pub fn write_picture<O: Sink>(
     out: &mut O,
 ) -> Result<(), Failed>
     requires { length spare.old ≡ 2 * length picture.now.samples }
-    ensures sent { OnOk result (Appends (O.written out.old) (O.written out.new) (frame (unrecorded picture.now))) }
-    ensures front { OnErr result (AppendsFront (O.written out.old) (O.written out.new) (frame (unrecorded picture.now))) }
-    ensures same_room { O.room out.new ≡ O.room out.old }
-    ensures count { Counts (O.faults out.old) (O.faults out.new) (O.room out.old) (O.written out.old) (O.written out.new) }
-    ensures failed { OnErr result (FailedWrite (O.faults out.old) (O.faults out.new) (O.room out.old) (O.written out.old) (O.written out.new)) }
+    ensures { Sends O.written O.faults O.room out.old out.new
+        (frame (unrecorded picture.now)) result }
 {
     write_unrecorded(picture, spare);
     write_frame(spare, out)
 }
 
-/// I pictures are shown in the order in which they are coded.
-pub fn intra_order_law()
-    ensures { IntraIsShownInOrder }
-{}
-
-/// The frame file of I pictures grows by a frame for each.
+/// A frame file grows by the frame of an anchor that comes last.
 pub fn growth_law()
     ensures { FrameFileGrows }
+{}
+
+/// A frame file is what was shown while its pictures came, and then the anchor that is held.
+pub fn shown_law()
+    ensures { FrameFileIsShown }
 {}

@@ -10,17 +10,9 @@ ghost use Rattle.y4m_frames.specs.FrameFile.{sample_bytes};
 
 use mv_planes::Picture;
 
-/// Puts a 10-bit sample, the low byte first, to this place.
-fn put_sample(to: &mut [u8], at: usize, v: u8)
-    requires { at + 1 < length to.old }
-    ensures { to.new ≡ slice_set (slice_set to.old at (4 * v % 256)) (at + 1) (4 * v / 256) }
-{
-    let sample = 4 * u16::from(v);
-    to[at] = (sample % 256) as u8;
-    to[at + 1] = (sample / 256) as u8;
-}
-
 /// Writes the sample bytes of a frame without recoding data: two for each sample of the picture.
+// Its loop is vectorised only as long as this is a function of its own, and not a part of its caller.
+#[inline(never)]
 pub fn write_unrecorded(picture: &Picture, to: &mut [u8])
     requires { length to.old ≡ 2 * length picture.now.samples }
     ensures { to.new ≡ unrecorded picture.now }
@@ -29,6 +21,16 @@ pub fn write_unrecorded(picture: &Picture, to: &mut [u8])
     'samples: for k in 0..samples.len() {
         put_sample(to, 2 * k, samples[k]);
     }
+}
+
+/// Puts a 10-bit sample, the low byte first, to this place.
+fn put_sample(to: &mut [u8], at: usize, v: u8)
+    requires { at + 1 < length to.old }
+    ensures { to.new ≡ slice_set (slice_set to.old at (4 * v % 256)) (at + 1) (4 * v / 256) }
+{
+    let sample = 4 * u16::from(v);
+    to[at] = (sample % 256) as u8;
+    to[at + 1] = (sample / 256) as u8;
 }
 
 #[cfg(test)]

@@ -1,4 +1,4 @@
-use Rattle.cert_picture.proofs.Order.{grows}
+use Rattle.cert_picture.proofs.FrameFileLaws.{grows}
 use Rattle.cert_picture.proofs.growth_law.Goals as goal
 
 pub returns : goal.returns
