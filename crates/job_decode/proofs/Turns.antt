@@ -1,7 +1,7 @@
 -- The units of a stream, one after another: what the loop over them keeps, and how it ends.
-use Rattle.std.proofs.Common.{◌≡◌, ℕ, ◌+◌, ◌≤◌, Bool, true, false, List, [], ◌∷◌, ◌++◌, length, take, drop, Option, None, Some, refl, ap, sym, ◌∙◌, append_assoc, append-nil, arith, subst, inl, inr, IsTrue}
+use Rattle.std.proofs.Common.{◌≡◌, ℕ, ◌+◌, ◌≤◌, Bool, true, false, List, [], ◌∷◌, ◌++◌, length, reverse, take, drop, Option, None, Some, refl, ap, sym, ◌∙◌, append_assoc, append-nil, arith, subst, IsTrue}
 use Rattle.std.specs.Prelude.{◌==◌}
-use Rattle.std.proofs.lemmas.List.{take-append-drop, drop_all, length-append, length-take, length-drop, take-take}
+use Rattle.std.proofs.lemmas.List.{take-append-drop, drop_all, length-take, length-drop, take-take}
 use Rattle.std.proofs.Math.Seq.{take-add}
 use Rattle.std.proofs.lemmas.Bool.{ne_eqb, eq-eqb}
 use Rattle.std.specs.Io.KnownBytes.{Appends}
@@ -10,33 +10,36 @@ use Rattle.mv_ends.specs.Moves.{AppendsFront}
 use Rattle.mv_ends.proofs.Known.{Appends-trans}
 use Rattle.mv_terms.specs.declared.status.Why.{Why}
 use Rattle.mv_terms.specs.declared.status.Status.TheVariants as status
+use Rattle.mv_terms.specs.UnitLists.{UnitLists}
 use Rattle.mv_bits.specs.Elements.{are_elements}
-use Rattle.mv_heads.specs.declared.units.Heads.{Heads}
-use Rattle.mv_slices.specs.Slices.{IsOneOrTheOther}
+use Rattle.mv_bits.proofs.JoinLaws.{front_none}
+use Rattle.mv_heads.specs.declared.head_state.Heads.{Heads}
+use Rattle.mv_heads.specs.HeadsInTurn.{after, context_in}
+use Rattle.mv_slices.specs.Slices.{IsCodedOrRefused}
 use Rattle.mv_units.specs.declared.cutter.Cut.TheVariants as cuts
-use Rattle.mv_units.specs.Units.{UnitLists, Units, Fed, AreSlices, StandsFor, AreAll, Settles, units_of, units_left, with_more, cut_of, ready_unit, behind_ready}
+use Rattle.mv_units.specs.Shape.{IsUnitSlices}
+use Rattle.mv_units.specs.Units.{Units, Fed, StandsFor, AreAll, Settles, units_of, units_left, with_more, cut_of, ready_unit, behind_ready}
+use Rattle.mv_units.specs.Profile.{CodedUnit, Judged, heads_in, Accepts}
 use Rattle.mv_units.proofs.CuttingLaws.{stands_for_next}
-use Rattle.job_decode.specs.Units.{Decoded, Pictures, Refuses, DecodeTo, decoded, with_first, none_but}
-use Rattle.job_decode.specs.Stream.{HasPictures, frames_of, limit}
-use Rattle.job_decode.specs.Steps.{IsFed, Writes, framed}
+use Rattle.mv_planes.specs.Planes.{Planes}
+use Rattle.rec_bury.specs.FrameBytes.{unrecorded}
+use Rattle.y4m_frames.specs.FrameFile.{frame}
+use Rattle.job_decode.specs.Built.{HasBuilt, BuiltTo}
+use Rattle.job_decode.specs.Stream.{frames_of, input_limit}
+use Rattle.job_decode.specs.Steps.{IsFed, AcceptsUnit, RefusedSoFar, heading}
 use Rattle.job_decode.proofs.Sends.{front_first, front_behind}
-use Rattle.job_decode.proofs.Growth.{AreI, are_i-none, are_i-more, accepted_is_i, decoded_are_i, is_empty, next_frame, frames_of-more, extends}
-use Rattle.job_decode.proofs.OutcomeLaws.{decode_to_one}
+use Rattle.job_decode.proofs.BuiltLaws.{IsAnchor, built_is_anchor, built_accepts, built_refuses, built_more}
+use Rattle.job_decode.proofs.Growth.{is_empty, next_frame, frames_grow, frames_extend}
+use Rattle.job_decode.proofs.OutcomeLaws.{built_to_one}
 use Rattle.job_decode.proofs.Exits.{EndsBy, ends_defined, ends_for_memory, ends_by_write, appends_none}
 
--- pictures behind others
-abbrev pub behind : List Decoded → Pictures → Pictures
-behind past others = record { decoded = past ++ others.decoded; refusal = others.refusal }
-
--- The pictures of the units let go, and what is written. Whatever the units that are left decode to, behind these it is
--- what the stream decodes to.
+-- The units let go, and what is written. However the units that are left are judged behind these, so is the stream.
 pub record AreDecoded (bytes : List ℕ) (heads : Option Heads) (let_go : List UnitLists) (count : ℕ) (old now : Option (List ℕ)) : Type 0 where
-  pub past : List Decoded
-  pub goes : (left : List UnitLists) (others : Pictures) → (units_of bytes).units ≡ let_go ++ left → DecodeTo heads left (units_of bytes).refusal others
-      → HasPictures bytes (behind past others)
-  pub count_is : count ≡ length past
-  pub intra : AreI past
-  pub written : Appends old now (frames_of past)
+  pub before : List CodedUnit
+  pub goes : (left : List UnitLists) (judged : Judged) → (units_of bytes).units ≡ let_go ++ left → BuiltTo before left (units_of bytes).refusal judged → HasBuilt bytes judged
+  pub heads_are : heads ≡ heads_in before
+  pub count_is : count ≡ length before
+  pub written : Appends old now (frames_of (reverse before))
 
 pub record Turn (bytes : List ℕ) (at : ℕ) (fed : Fed) (heads : Option Heads) (count : ℕ) (old now : Option (List ℕ)) : Type 0 where
   pub let_go : List UnitLists
@@ -48,10 +51,10 @@ turn_starts bytes fed out opened stands = record {
   let_go = [];
   is_fed = record { stands = stands; within = omega arith; all = λ e. absurd (let same : true ≡ false = sym e ∙ opened in cc) };
   decoded = record {
-    past = [];
-    goes = λ left others is h. subst (λ (units : List UnitLists). DecodeTo None units (units_of bytes).refusal others) (sym is) h;
+    before = [];
+    goes = λ left judged is h. subst (λ (units : List UnitLists). BuiltTo [] units (units_of bytes).refusal judged) (sym is) h;
+    heads_are = refl;
     count_is = refl;
-    intra = are_i-none;
     written = appends_none out;
   };
 }
@@ -77,9 +80,8 @@ fed_more bytes at m n fed fed' le within opened is stands let_go so =
     }
 
 -- slices are elements
-pub are_their_elements : (slices : List ℕ) → AreSlices slices → IsTrue (are_elements slices)
-are_their_elements [] h = refl
-are_their_elements (b ∷ bs) h = h.begin
+pub are_their_elements : (slices : List ℕ) → IsUnitSlices slices → IsTrue (are_elements slices)
+are_their_elements slices h = front_none slices h.front
 
 -- What is left.
 
@@ -109,43 +111,50 @@ settled bytes at fed let_go refusal so all =
 
 -- A unit is accepted.
 
-is_first : (past : List Decoded) (count : ℕ) → count ≡ length past → (count == 0) ≡ is_empty past
+is_first : (before : List CodedUnit) (count : ℕ) → count ≡ length before → (count == 0) ≡ is_empty before
 is_first [] count h = eq-eqb count 0 h
-is_first (d ∷ ds) count h = ne_eqb count 0 (λ z. omega (arith, h, z))
+is_first (u ∷ us) count h = ne_eqb count 0 (λ z. omega (arith, h, z))
 
-frame_is : (past : List Decoded) (count : ℕ) (heads : Option Heads) (unit : UnitLists) (now : Option Heads) (Moves : List ℕ → Type 0) → count ≡ length past
-    → (w : Writes heads unit now (count == 0) Moves) → Moves (next_frame past (decoded w.accepted w.picture))
-frame_is past count heads unit now Moves is w =
-    subst (λ (b : Bool). Moves (framed b w.accepted w.picture)) (is_first past count is) w.moves
+-- what is written of it
+frame_is : (before : List CodedUnit) (count : ℕ) (heads : Option Heads) (lists : UnitLists) (now : Option Heads) (samples : Planes) (w : AcceptsUnit heads lists now samples) → count ≡ length before
+    → heading (count == 0) (context_in now) ++ frame (unrecorded samples) ≡ next_frame before w.unit
+frame_is before count heads lists now samples w is =
+    ap (λ (b : Bool). heading b (context_in now) ++ frame (unrecorded samples)) (is_first before count is)
+    ∙ (ap (λ (h : Option Heads). heading (is_empty before) (context_in h) ++ frame (unrecorded samples)) w.heads
+    ∙ ap (λ (p : Planes). heading (is_empty before) (context_in (Some w.unit.accepted.heads)) ++ frame (unrecorded p)) w.samples_are)
 
--- what goes on behind an accepted unit
-goes_on : (bytes : List ℕ) (heads : Option Heads) (let_go : List UnitLists) (count : ℕ) (old now : Option (List ℕ)) (unit : UnitLists) (so : AreDecoded bytes heads let_go count old now)
-    (heads' : Option Heads) (first : Bool) (Moves : List ℕ → Type 0) (w : Writes heads unit heads' first Moves) (left : List UnitLists) (others : Pictures)
-    → (units_of bytes).units ≡ let_go ++ (unit ∷ left) → DecodeTo heads' left (units_of bytes).refusal others → HasPictures bytes (behind (so.past ++ decoded w.accepted w.picture ∷ []) others)
-goes_on bytes heads let_go count old now unit so heads' first Moves w left others is h =
-    let d = decoded w.accepted w.picture in
-    let there : DecodeTo (Some w.accepted.heads) left (units_of bytes).refusal others = subst (λ (x : Option Heads). DecodeTo x left (units_of bytes).refusal others) w.heads h in
-    let all = so.goes (unit ∷ left) (with_first d others) is (inl (w.accepted, w.picture, others, w.accepts, there, refl)) in
-    subst (λ (ds : List Decoded). HasPictures bytes (record { decoded = ds; refusal = others.refusal })) (sym (append_assoc so.past (d ∷ []) others.decoded)) all
+accepted_behind : (before : List CodedUnit) (heads : Option Heads) (lists : UnitLists) (now : Option Heads) (samples : Planes) (w : AcceptsUnit heads lists now samples) → heads ≡ heads_in before → Accepts (heads_in before) lists w.unit
+accepted_behind before heads lists now samples w is = subst (λ (h : Option Heads). Accepts h lists w.unit) is w.accepts
 
-pub turn_accepts : (bytes : List ℕ) (at : ℕ) (fed fed' : Fed) (heads heads' : Option Heads) (count : ℕ) (unit : UnitLists) (old now new : Option (List ℕ)) → Turn bytes at fed heads count old now
-    → cut_of fed ≡ cuts.Ready → fed' ≡ behind_ready fed → unit ≡ ready_unit fed → Writes heads unit heads' (count == 0) (Appends now new) → Turn bytes at fed' heads' (count + 1) old new
-turn_accepts bytes at fed fed' heads heads' count unit old now new turn ready next is w =
+is_anchor : (heads : Option Heads) (lists : UnitLists) (now : Option Heads) (samples : Planes) (w : AcceptsUnit heads lists now samples) → IsAnchor w.unit
+is_anchor heads lists now samples w = built_is_anchor heads lists w.unit w.accepts w.built
+
+-- what goes on behind it
+goes_on : (bytes : List ℕ) (heads : Option Heads) (let_go : List UnitLists) (count : ℕ) (old now : Option (List ℕ)) (lists : UnitLists) (so : AreDecoded bytes heads let_go count old now)
+    (heads' : Option Heads) (samples : Planes) (w : AcceptsUnit heads lists heads' samples) (left : List UnitLists) (judged : Judged)
+    → (units_of bytes).units ≡ let_go ++ (lists ∷ left) → BuiltTo (w.unit ∷ so.before) left (units_of bytes).refusal judged → HasBuilt bytes judged
+goes_on bytes heads let_go count old now lists so heads' samples w left judged is h =
+    so.goes (lists ∷ left) judged is
+    (built_accepts so.before lists left (units_of bytes).refusal judged w.unit (accepted_behind so.before heads lists heads' samples w so.heads_are) w.built h)
+
+pub turn_accepts : (bytes : List ℕ) (at : ℕ) (fed fed' : Fed) (heads heads' : Option Heads) (count : ℕ) (lists : UnitLists) (samples : Planes) (old now new : Option (List ℕ)) → Turn bytes at fed heads count old now
+    → cut_of fed ≡ cuts.Ready → fed' ≡ behind_ready fed → lists ≡ ready_unit fed → AcceptsUnit heads lists heads' samples
+    → Appends now new (heading (count == 0) (context_in heads') ++ frame (unrecorded samples)) → Turn bytes at fed' heads' (count + 1) old new
+turn_accepts bytes at fed fed' heads heads' count lists samples old now new turn ready next is w sent =
     let so = turn.decoded in
-    let d = decoded w.accepted w.picture in
-    let i = accepted_is_i heads unit w.accepted w.picture w.accepts in
     let behind_it : IsFed bytes at (behind_ready fed) (turn.let_go ++ ready_unit fed ∷ []) =
     record { stands = stands_for_next fed (take at bytes) turn.let_go ready turn.is_fed.stands; within = turn.is_fed.within; all = turn.is_fed.all } in
     record {
-      let_go = turn.let_go ++ unit ∷ [];
-      is_fed = subst (λ (x : Fed). IsFed bytes at x (turn.let_go ++ unit ∷ [])) (sym next) (subst (λ (x : UnitLists). IsFed bytes at (behind_ready fed) (turn.let_go ++ x ∷ [])) (sym is) behind_it);
+      let_go = turn.let_go ++ lists ∷ [];
+      is_fed = subst (λ (x : Fed). IsFed bytes at x (turn.let_go ++ lists ∷ [])) (sym next) (subst (λ (x : UnitLists). IsFed bytes at (behind_ready fed) (turn.let_go ++ x ∷ [])) (sym is) behind_it);
       decoded = record {
-        past = so.past ++ d ∷ [];
-        goes = λ left others all h. goes_on bytes heads turn.let_go count old now unit so heads' (count == 0) (Appends now new) w left others (all ∙ append_assoc turn.let_go (unit ∷ []) left) h;
-        count_is = let c : count ≡ length so.past = so.count_is in simp length-append (omega (arith, c));
-        intra = are_i-more so.past d so.intra i;
-        written = subst (λ (xs : List ℕ). Appends old new xs) (sym (frames_of-more so.past d so.intra i))
-            (Appends-trans old now new (frames_of so.past) (next_frame so.past d) so.written (frame_is so.past count heads unit heads' (Appends now new) so.count_is w));
+        before = w.unit ∷ so.before;
+        goes = λ left judged all h. goes_on bytes heads turn.let_go count old now lists so heads' samples w left judged (all ∙ append_assoc turn.let_go (lists ∷ []) left) h;
+        heads_are = w.heads;
+        count_is = let c : count ≡ length so.before = so.count_is in omega (arith, c);
+        written = subst (λ (xs : List ℕ). Appends old new xs) (sym (frames_grow so.before w.unit (is_anchor heads lists heads' samples w)))
+            (Appends-trans old now new (frames_of (reverse so.before)) (next_frame so.before w.unit) so.written
+            (subst (λ (xs : List ℕ). Appends now new xs) (frame_is so.before count heads lists heads' samples w so.count_is) sent));
       };
     }
 
@@ -153,67 +162,70 @@ turn_accepts bytes at fed fed' heads heads' count unit old now new turn ready ne
 
 -- the units are all decoded, and the stream is refused behind them or at its end
 at_last : (bytes : List ℕ) (heads : Option Heads) (let_go : List UnitLists) (count : ℕ) (old now : Option (List ℕ)) (refusal : Option Why) (so : AreDecoded bytes heads let_go count old now)
-    → units_of bytes ≡ record { units = let_go; refusal = refusal } → HasPictures bytes (record { decoded = so.past; refusal = refusal })
+    → units_of bytes ≡ record { units = let_go; refusal = refusal } → HasBuilt bytes (record { units = so.before; refusal = refusal })
 at_last bytes heads let_go count old now refusal so all =
-    let none = so.goes [] (none_but refusal) (ap (λ (us : Units). us.units) all ∙ sym (append-nil let_go)) (ap (λ (us : Units). none_but us.refusal) (sym all)) in
-    subst (λ (ds : List Decoded). HasPictures bytes (record { decoded = ds; refusal = refusal })) (append-nil so.past) none
+    so.goes [] (record { units = so.before; refusal = refusal }) (ap (λ (us : Units). us.units) all ∙ sym (append-nil let_go))
+    (ap (λ (us : Units). record { units = so.before; refusal = us.refusal }) (sym all))
 
-pub done : (bytes : List ℕ) (at : ℕ) (fed : Fed) (heads : Option Heads) (count : ℕ) (old now : Option (List ℕ)) → length bytes ≤ limit → Turn bytes at fed heads count old now
+pub done : (bytes : List ℕ) (at : ℕ) (fed : Fed) (heads : Option Heads) (count : ℕ) (old now : Option (List ℕ)) → length bytes ≤ input_limit → Turn bytes at fed heads count old now
     → Settles fed cuts.Ended → EndsBy bytes (defined status.Done) old now
 done bytes at fed heads count old now short turn settles =
     let so = turn.decoded in
     let all = settled bytes at fed turn.let_go None turn.is_fed (settles (take at bytes) turn.let_go turn.is_fed.stands) in
-    ends_defined bytes (record { decoded = so.past; refusal = None }) status.Done old now short (at_last bytes heads turn.let_go count old now None so all) refl so.written
+    ends_defined bytes (record { units = so.before; refusal = None }) status.Done old now short (at_last bytes heads turn.let_go count old now None so all) refl so.written
 
-pub cut_refused : (bytes : List ℕ) (at : ℕ) (fed : Fed) (heads : Option Heads) (count : ℕ) (old now : Option (List ℕ)) (why : Why) → length bytes ≤ limit → Turn bytes at fed heads count old now
+pub cut_refused : (bytes : List ℕ) (at : ℕ) (fed : Fed) (heads : Option Heads) (count : ℕ) (old now : Option (List ℕ)) (why : Why) → length bytes ≤ input_limit → Turn bytes at fed heads count old now
     → Settles fed (cuts.Refused why) → EndsBy bytes (defined (status.Unit count why)) old now
 cut_refused bytes at fed heads count old now why short turn settles =
     let so = turn.decoded in
     let all = settled bytes at fed turn.let_go (Some why) turn.is_fed (settles (take at bytes) turn.let_go turn.is_fed.stands) in
-    ends_defined bytes (record { decoded = so.past; refusal = Some why }) (status.Unit count why) old now short
+    ends_defined bytes (record { units = so.before; refusal = Some why }) (status.Unit count why) old now short
     (at_last bytes heads turn.let_go count old now (Some why) so all) (ap (λ (n : ℕ). status.Unit n why) so.count_is) so.written
 
-pub unit_refused : (bytes : List ℕ) (at : ℕ) (fed : Fed) (heads : Option Heads) (count : ℕ) (unit : UnitLists) (old now new : Option (List ℕ)) (why : Why) → length bytes ≤ limit → Turn bytes at fed heads count old now
-    → cut_of fed ≡ cuts.Ready → unit ≡ ready_unit fed → Refuses heads unit why × (new ≡ now) → EndsBy bytes (defined (status.Unit count why)) old new
-unit_refused bytes at fed heads count unit old now new why short turn ready is refuses =
+pub unit_refused : (bytes : List ℕ) (at : ℕ) (fed : Fed) (heads : Option Heads) (count : ℕ) (lists : UnitLists) (old now : Option (List ℕ)) (why : Why) → length bytes ≤ input_limit → Turn bytes at fed heads count old now
+    → cut_of fed ≡ cuts.Ready → lists ≡ ready_unit fed → RefusedSoFar (after heads lists) lists.slices why → EndsBy bytes (defined (status.Unit count why)) old now
+unit_refused bytes at fed heads count lists old now why short turn ready is refuses =
     let so = turn.decoded in
     let later = all_behind bytes at fed turn.let_go turn.is_fed ready in
-    let there : Refuses heads (ready_unit fed) why = subst (λ (x : UnitLists). Refuses heads x why) is refuses.0 in
-    let none = so.goes (ready_unit fed ∷ later.0) (none_but (Some why)) later.1 (inr (why, there, refl)) in
-    let has = subst (λ (ds : List Decoded). HasPictures bytes (record { decoded = ds; refusal = Some why })) (append-nil so.past) none in
-    ends_defined bytes (record { decoded = so.past; refusal = Some why }) (status.Unit count why) old new short has (ap (λ (n : ℕ). status.Unit n why) so.count_is)
-    (subst (λ (x : Option (List ℕ)). Appends old x (frames_of so.past)) (sym refuses.1) so.written)
+    let there : RefusedSoFar (after (heads_in so.before) lists) lists.slices why = subst (λ (h : Option Heads). RefusedSoFar (after h lists) lists.slices why) so.heads_are refuses in
+    let its : RefusedSoFar (after (heads_in so.before) (ready_unit fed)) (ready_unit fed).slices why = subst (λ (x : UnitLists). RefusedSoFar (after (heads_in so.before) x) x.slices why) is there in
+    let has = so.goes (ready_unit fed ∷ later.0) (record { units = so.before; refusal = Some why }) later.1
+    (built_refuses so.before (ready_unit fed) later.0 (units_of bytes).refusal why its) in
+    ends_defined bytes (record { units = so.before; refusal = Some why }) (status.Unit count why) old now short has (ap (λ (n : ℕ). status.Unit n why) so.count_is) so.written
 
-pub out_of_memory : IsOneOrTheOther → (bytes : List ℕ) (at : ℕ) (fed : Fed) (heads : Option Heads) (count : ℕ) (old now new : Option (List ℕ)) → length bytes ≤ limit → Turn bytes at fed heads count old now
-    → new ≡ now → EndsBy bytes no_memory old new
-out_of_memory law bytes at fed heads count old now new short turn same =
+-- what is written so far is a front of the output
+pub out_of_memory : IsCodedOrRefused → (bytes : List ℕ) (at : ℕ) (fed : Fed) (heads : Option Heads) (count : ℕ) (old now : Option (List ℕ)) → length bytes ≤ input_limit → Turn bytes at fed heads count old now
+    → EndsBy bytes no_memory old now
+out_of_memory law bytes at fed heads count old now short turn =
     let so = turn.decoded in
     let later = all_units bytes at fed turn.let_go turn.is_fed in
-    let one = decode_to_one law later.0 heads (units_of bytes).refusal in
-    let further = extends one.pictures.decoded so.past so.intra (decoded_are_i later.0 heads (units_of bytes).refusal one.pictures one.is) in
-    ends_for_memory bytes (behind so.past one.pictures) old new short (so.goes later.0 one.pictures later.1 one.is)
+    let one = built_to_one law so.before later.0 (units_of bytes).refusal in
+    let more = built_more later.0 so.before (units_of bytes).refusal one.judged one.is in
+    let further = frames_extend more.more so.before more.anchors in
+    ends_for_memory bytes one.judged old now short (so.goes later.0 one.judged later.1 one.is)
     (record {
-      front = frames_of so.past;
+      front = frames_of (reverse so.before);
       back = further.0;
-      parts = further.1;
-      grown = subst (λ (x : Option (List ℕ)). Appends old x (frames_of so.past)) (sym same) so.written;
+      parts = ap (λ (us : List CodedUnit). frames_of (reverse us)) more.units_are ∙ further.1;
+      grown = so.written;
     })
 
-pub failed_write : IsOneOrTheOther → (bytes : List ℕ) (at : ℕ) (fed : Fed) (heads heads' : Option Heads) (count : ℕ) (unit : UnitLists) (old now new : Option (List ℕ)) → length bytes ≤ limit → Turn bytes at fed heads count old now
-    → cut_of fed ≡ cuts.Ready → unit ≡ ready_unit fed → Writes heads unit heads' (count == 0) (AppendsFront now new) → EndsBy bytes write_fault old new
-failed_write law bytes at fed heads heads' count unit old now new short turn ready is w =
+pub failed_write : IsCodedOrRefused → (bytes : List ℕ) (at : ℕ) (fed : Fed) (heads heads' : Option Heads) (count : ℕ) (lists : UnitLists) (samples : Planes) (old now new : Option (List ℕ)) → length bytes ≤ input_limit → Turn bytes at fed heads count old now
+    → cut_of fed ≡ cuts.Ready → lists ≡ ready_unit fed → AcceptsUnit heads lists heads' samples
+    → AppendsFront now new (heading (count == 0) (context_in heads') ++ frame (unrecorded samples)) → EndsBy bytes write_fault old new
+failed_write law bytes at fed heads heads' count lists samples old now new short turn ready is w sent =
     let so = turn.decoded in
-    let d = decoded w.accepted w.picture in
-    let i = accepted_is_i heads unit w.accepted w.picture w.accepts in
     let later = all_behind bytes at fed turn.let_go turn.is_fed ready in
-    let all : (units_of bytes).units ≡ turn.let_go ++ (unit ∷ later.0) = later.1 ∙ ap (λ (x : UnitLists). turn.let_go ++ (x ∷ later.0)) (sym is) in
-    let one = decode_to_one law later.0 heads' (units_of bytes).refusal in
-    let past' = so.past ++ d ∷ [] in
-    let further = extends one.pictures.decoded past' (are_i-more so.past d so.intra i) (decoded_are_i later.0 heads' (units_of bytes).refusal one.pictures one.is) in
-    let output : frames_of (past' ++ one.pictures.decoded) ≡ (frames_of so.past ++ next_frame so.past d) ++ further.0 =
-    further.1 ∙ ap (λ (xs : List ℕ). xs ++ further.0) (frames_of-more so.past d so.intra i) in
-    ends_by_write bytes (behind past' one.pictures) old new short
-    (goes_on bytes heads turn.let_go count old now unit so heads' (count == 0) (AppendsFront now new) w later.0 one.pictures all one.is)
+    let all : (units_of bytes).units ≡ turn.let_go ++ (lists ∷ later.0) = later.1 ∙ ap (λ (x : UnitLists). turn.let_go ++ (x ∷ later.0)) (sym is) in
+    let one = built_to_one law (w.unit ∷ so.before) later.0 (units_of bytes).refusal in
+    let more = built_more later.0 (w.unit ∷ so.before) (units_of bytes).refusal one.judged one.is in
+    let further = frames_extend more.more (w.unit ∷ so.before) more.anchors in
+    let output : frames_of (reverse one.judged.units) ≡ (frames_of (reverse so.before) ++ next_frame so.before w.unit) ++ further.0 =
+    ap (λ (us : List CodedUnit). frames_of (reverse us)) more.units_are
+    ∙ (further.1 ∙ ap (λ (xs : List ℕ). xs ++ further.0) (frames_grow so.before w.unit (is_anchor heads lists heads' samples w))) in
+    ends_by_write bytes one.judged old new short
+    (goes_on bytes heads turn.let_go count old now lists so heads' samples w later.0 one.judged all one.is)
     (subst (λ (xs : List ℕ). AppendsFront old new xs) (sym output)
-    (front_first old new (frames_of so.past ++ next_frame so.past d) further.0
-    (front_behind old now new (frames_of so.past) (next_frame so.past d) so.written (frame_is so.past count heads unit heads' (AppendsFront now new) so.count_is w))))
+    (front_first old new (frames_of (reverse so.before) ++ next_frame so.before w.unit) further.0
+    (front_behind old now new (frames_of (reverse so.before)) (next_frame so.before w.unit) so.written
+    (subst (λ (xs : List ℕ). AppendsFront now new xs) (frame_is so.before count heads lists heads' samples w so.count_is) sent))))

@@ -1,3 +1,3 @@
-pub mod Units
+pub mod Built
 pub mod Stream
 pub mod Steps

@@ -2,28 +2,29 @@
 //!
 //! Its promise: `decode_job` ends as `IsOutcome` in `specs/Stream.antt` defines for the bytes of the named input, in
 //! status and output, but for want of memory and counted faults of its endpoints; `outcome_law` says that each stream
-//! has one outcome. What the units of a stream decode to stands in `specs/Units.antt`, and what each step of the code
-//! answers in `specs/Steps.antt`.
+//! has one outcome. Which units are decoded so far stands in `specs/Built.antt`. `specs/Steps.antt` only carries proofs.
 #![tactic(auto)]
 
+mod frames;
 mod input;
-mod store;
 mod stream;
 mod unit;
+mod workspace;
 
-ghost use Rattle.std.specs.Prelude.{◌≡◌, ◌≢◌, ◌-◌, length};
+ghost use Rattle.std.specs.Prelude.{◌≡◌};
 ghost use Rattle.std.specs.Option.{ForSome};
-ghost use Rattle.std.specs.Io.KnownBytes.{IsAtEnd};
-ghost use Rattle.mv_ends.specs.Causes.{Rose, NeverFall, Counts, FailedWrite};
+ghost use Rattle.std.specs.Io.KnownBytes.{IsAtEnd, Keeps};
+ghost use Rattle.mv_ends.specs.Causes.{Rose, Counts, FailedWrite};
 ghost use Rattle.mv_ends.specs.Ends.{Ends, Outcome};
 ghost use Rattle.mv_ends.specs.Moves.{input_of};
-ghost use Rattle.y4m_frames.specs.Endings.{ending_of};
-ghost use Rattle.job_decode.specs.Stream.{AppendsGiven, EachHasOneOutcome, IsOutcome};
+ghost use Rattle.mv_ends.specs.Shelves.{KeepsShelf};
+ghost use Rattle.mv_ends.specs.Endings.{ending_of};
+ghost use Rattle.job_decode.specs.Stream.{AppendsTaken, EachHasOneOutcome, IsDecodeStatus, IsOutcome};
 
-use crate::input::{Unread, read_input};
+use crate::input::read_input;
 use crate::stream::decode_stream;
 use mv_ends::{Shelf, Sink};
-use mv_terms::{Status, Why};
+use mv_terms::Status;
 use std::alloc::Global;
 
 /// Writes the frame file that the stream of this name decodes to: the frames of its pictures, up to the first unit that
@@ -38,32 +39,36 @@ pub fn decode_job<S: Shelf, O: Sink>(
     out: &mut O,
 ) -> Status
     // Where the inputs are told, it ends as it is defined, but for want of memory and for the faults below.
-    ensures ends { ForSome (S.named shelf.old)
-        (λ inputs. (outcome : Outcome Status) × IsOutcome (input_of inputs name.now) outcome × Ends outcome (ending_of result) (O.written out.old) (O.written out.new)) }
+    ensures ends { ForSome (S.named shelf.old) (λ inputs.
+        (outcome : Outcome Status) × IsOutcome (input_of inputs name.now) outcome
+        × Ends outcome (ending_of result) (O.written out.old) (O.written out.new)) }
     ensures done { result ≡ Status.Done → IsAtEnd (S.rest shelf.new) }
 
+    // Also where they aren't told, no other statuses come, and nothing is written where the input isn't opened.
+    ensures kind { IsDecodeStatus result }
+    ensures unopened { result ≡ Status.OpenFault → Keeps (O.written out.old) (O.written out.new) }
+
     // After a read fault no more stands on the output than what is due to the bytes that were taken.
-    ensures read_part { result ≡ Status.ReadFault → ForSome (S.named shelf.old) (λ inputs. ForSome (S.rest shelf.new)
-        (λ left. AppendsGiven (input_of inputs name.now) (length (input_of inputs name.now) - length left) (O.written out.old) (O.written out.new))) }
-    ensures form { result ≢ Status.Words }
+    ensures read_part { result ≡ Status.ReadFault
+        → AppendsTaken name.now (S.named shelf.old) (S.rest shelf.new) (O.written out.old) (O.written out.new) }
 
     // A fault of an endpoint is answered only where it was counted in this call, for this very name.
-    ensures open_fault { result ≡ Status.OpenFault → Rose (S.open_faults shelf.old name.now) (S.open_faults shelf.new name.now) }
-    ensures read_fault { result ≡ Status.ReadFault → Rose (S.read_faults shelf.old name.now) (S.read_faults shelf.new name.now) }
-    ensures write_fault { result ≡ Status.WriteFault → FailedWrite (O.faults out.old) (O.faults out.new) (O.room out.old) (O.written out.old) (O.written out.new) }
+    ensures open_fault { result ≡ Status.OpenFault
+        → Rose (S.open_faults shelf.old name.now) (S.open_faults shelf.new name.now) }
+    ensures read_fault { result ≡ Status.ReadFault
+        → Rose (S.read_faults shelf.old name.now) (S.read_faults shelf.new name.now) }
+    ensures write_fault { result ≡ Status.WriteFault
+        → FailedWrite (O.faults out.old) (O.faults out.new)
+        (O.room out.old) (O.written out.old) (O.written out.new) }
 
     ensures same_room { O.room out.new ≡ O.room out.old }
-    ensures count { Counts (O.faults out.old) (O.faults out.new) (O.room out.old) (O.written out.old) (O.written out.new) }
-    ensures inputs { S.named shelf.new ≡ S.named shelf.old }
-    ensures opens { NeverFall (S.open_faults shelf.old) (S.open_faults shelf.new) }
-    ensures reads { NeverFall (S.read_faults shelf.old) (S.read_faults shelf.new) }
+    ensures count { Counts (O.faults out.old) (O.faults out.new)
+        (O.room out.old) (O.written out.old) (O.written out.new) }
+    ensures kept { KeepsShelf S.named S.open_faults S.read_faults shelf.old shelf.new }
 {
     let bytes = match read_input(alloc, name, shelf) {
         Ok(bytes) => bytes,
-        Err(Unread::Open) => return Status::OpenFault,
-        Err(Unread::Read) => return Status::ReadFault,
-        Err(Unread::TooLong) => return Status::Unit(0, Why::TooLong),
-        Err(Unread::NoMemory) => return Status::NoMemory,
+        Err(status) => return status,
     };
     decode_stream(alloc, &bytes, out)
 }

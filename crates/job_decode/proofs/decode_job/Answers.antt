@@ -1,20 +1,12 @@
-use Rattle.std.proofs.Common.{rules}
+use Rattle.std.proofs.Common.{ap, Err}
 use Rattle.mv_ends.specs.Moves.{input_of}
-use Rattle.mv_slices.proofs.SliceLaws.{one_or_the_other}
-use Rattle.job_decode.proofs.Exits.{not_opened, not_read, given_nothing, no_room, longer}
+use Rattle.mv_slices.proofs.SliceLaws.{coded_or_refused}
+use Rattle.job_decode.proofs.Exits.{not_begun, given_nothing}
 use Rattle.job_decode.proofs.decode_job.Goals as goal
 
-pub returns-in-Err-Open-clause-ends : goal.returns-in-Err-Open-clause-ends
-returns-in-Err-Open-clause-ends g c inputs told = not_opened one_or_the_other (input_of inputs c.args.name.now) (g.O.Sink.written c.args.out.now)
+pub returns-in-Err-clause-ends : goal.returns-in-Err-clause-ends
+returns-in-Err-clause-ends g c inputs told =
+    not_begun coded_or_refused (input_of inputs c.args.name.now) c.in-Err.status (g.O.Sink.written c.args.out.now) c.in-Err.ensures.kind (λ is. c.in-Err.ensures.too_long (ap Err is) inputs told)
 
-pub returns-in-Err-Read-clause-ends : goal.returns-in-Err-Read-clause-ends
-returns-in-Err-Read-clause-ends g c inputs told = not_read one_or_the_other (input_of inputs c.args.name.now) (g.O.Sink.written c.args.out.now)
-
-pub returns-in-Err-Read-clause-read_part : goal.returns-in-Err-Read-clause-read_part
-returns-in-Err-Read-clause-read_part g c _ inputs told left rest = given_nothing one_or_the_other (input_of inputs c.args.name.now) _ (g.O.Sink.written c.args.out.now)
-
-pub returns-in-Err-TooLong-clause-ends : goal.returns-in-Err-TooLong-clause-ends
-returns-in-Err-TooLong-clause-ends g c inputs told = longer (input_of inputs c.args.name.now) (g.O.Sink.written c.args.out.now) (search rules)
-
-pub returns-in-Err-NoMemory-clause-ends : goal.returns-in-Err-NoMemory-clause-ends
-returns-in-Err-NoMemory-clause-ends g c inputs told = no_room one_or_the_other (input_of inputs c.args.name.now) (g.O.Sink.written c.args.out.now)
+pub returns-in-Err-clause-read_part : goal.returns-in-Err-clause-read_part
+returns-in-Err-clause-read_part g c fault inputs told left rest = given_nothing coded_or_refused (input_of inputs c.args.name.now) _ (g.O.Sink.written c.args.out.now)

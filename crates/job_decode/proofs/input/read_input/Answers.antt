@@ -2,6 +2,7 @@ use Rattle.std.proofs.Common.{◌≡◌, ◌++◌, take, sym, ◌∙◌, ap, ari
 use Rattle.std.specs.Io.KnownBytes.{Consumes}
 use Rattle.mv_ends.proofs.Known.{Consumes-trans, at_end, no_less}
 use Rattle.mv_ends.specs.Moves.{input_of}
+use Rattle.job_decode.proofs.Keeps.{keeps_on}
 use Rattle.job_decode.proofs.input.read_input.Goals as goal
 
 pub returns-in-Ok-eq0-clause-read : goal.returns-in-Ok-eq0-clause-read
@@ -15,13 +16,11 @@ returns-in-Ok-eq0-clause-read g c inputs told =
 pub loop-piece-preserved : goal.loop-piece-preserved
 loop-piece-preserved g c = record {
   taken = λ inputs told.
-      let more : c.loop-piece.input.items ++ take c.in-Ok-read.count c.read.new.buf ≡ c.extend_from_slice.new.self.items = search rules in
+      let more : c.loop-piece.input.items ++ take c.in-Ok.count c.read.new.buf ≡ c.extend_from_slice.new.self.items = search rules in
       subst (Consumes (Some (input_of inputs c.args.name.now)) (g.S.Shelf.rest c.read.new.self)) more
-      (Consumes-trans (Some (input_of inputs c.args.name.now)) (g.S.Shelf.rest c.loop-piece.shelf) (g.S.Shelf.rest c.read.new.self) c.loop-piece.input.items (take c.in-Ok-read.count c.read.new.buf) (c.loop-piece.invariant.taken inputs told) c.in-Ok-read.ensures.bytes.0);
-  chosen = ap (λ s. s c.args.name.now) c.in-Ok-read.ensures.chosen ∙ c.loop-piece.invariant.chosen;
-  inputs = c.in-Ok-read.ensures.inputs ∙ c.loop-piece.invariant.inputs;
-  opens = λ name. omega (arith, c.loop-piece.invariant.opens name, c.in-Ok-read.ensures.opens name);
-  reads = λ name. omega (arith, c.loop-piece.invariant.reads name, c.in-Ok-read.ensures.reads name);
+      (Consumes-trans (Some (input_of inputs c.args.name.now)) (g.S.Shelf.rest c.loop-piece.shelf) (g.S.Shelf.rest c.read.new.self) c.loop-piece.input.items (take c.in-Ok.count c.read.new.buf) (c.loop-piece.invariant.taken inputs told) c.in-Ok.ensures.bytes.0);
+  chosen = ap (λ s. s c.args.name.now) c.in-Ok.ensures.chosen ∙ c.loop-piece.invariant.chosen;
+  kept = keeps_on _ _ _ _ _ _ c.loop-piece.invariant.kept c.in-Ok.ensures.keeps;
 }
 
 pub returns-clause-too_long : goal.returns-clause-too_long

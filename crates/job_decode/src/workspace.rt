@@ -1,71 +1,53 @@
-//! What a picture is decoded in.
+//! What a unit is decoded in.
 ghost use Rattle.std.specs.Prelude.{◌≡◌, OnOk, IfOk, IsTrue, false};
 ghost use Rattle.mv_bits.specs.Elements.{are_elements};
 ghost use Rattle.mv_terms.specs.Ranges.{IsHead};
-ghost use Rattle.job_decode.specs.Steps.{HasRoom, IsStore, ReadsPicture};
+ghost use Rattle.job_decode.specs.Steps.{HasRoom, IsWorkspace, ReadsPicture};
 
 use mv_planes::Picture;
 use mv_recon::reconstruct_intra;
 use mv_slices::read_slices;
-use mv_terms::{Decision, Head, MacroLevels, NoMemory, PicType, Vector, Why};
+use mv_terms::{Decision, Head, MacroLevels, NoMemory, PicType, Why};
 use std::alloc::Global;
 
-const STILL: Vector = Vector { x: 0, y: 0 };
-
-/// Stands in the places of a picture that wasn't read yet.
-const NO_DECISION: Decision = Decision {
-    slice_start: false,
-    skipped: false,
-    quant: false,
-    intra: false,
-    forward: false,
-    backward: false,
-    field_dct: false,
-    field_motion: false,
-    scale: 0,
-    selects: [[false; 2]; 2],
-    vectors: [[STILL; 2]; 2],
-    head_scale: 0,
-};
-
-const NO_LEVELS: MacroLevels = MacroLevels {
-    blocks: [[0; 64]; 6],
-};
-
-/// The decisions and levels of the macroblocks of a picture, its samples, and two bytes for each of them.
+/// The decisions and levels of the macroblocks of a picture, its samples, and the bytes of its frame.
 #[derive(Drop)]
-pub(crate) struct Store {
+pub(crate) struct Workspace {
     pub(crate) decisions: Vec<Decision>,
     pub(crate) levels: Vec<MacroLevels>,
     pub(crate) picture: Picture,
-    pub(crate) spare: Vec<u8>,
+    pub(crate) frame: Vec<u8>,
 }
 
-impl Store {
-    /// The store of a picture of this size in macroblocks.
-    pub(crate) fn with_size(alloc: Global, mb_wide: u16, mb_high: u16) -> Result<Store, NoMemory>
-        ensures { IfOk result (λ store. HasRoom store mb_wide mb_high) }
+impl Workspace {
+    /// The workspace of a picture of this size in macroblocks.
+    pub(crate) fn with_size(
+        alloc: Global,
+        mb_wide: u16,
+        mb_high: u16,
+    ) -> Result<Workspace, NoMemory>
+        ensures { IfOk result (λ workspace. HasRoom workspace mb_wide mb_high) }
     {
         let count = usize::from(mb_wide) * usize::from(mb_high);
-        let decisions = vec![in alloc; NO_DECISION; count].map_err(|_| NoMemory)?;
-        let levels = vec![in alloc; NO_LEVELS; count].map_err(|_| NoMemory)?;
+        let decisions = vec![in alloc; Decision::NONE; count].map_err(|_| NoMemory)?;
+        let levels = vec![in alloc; MacroLevels::NONE; count].map_err(|_| NoMemory)?;
         let picture = Picture::grey(alloc, mb_wide, mb_high)?;
-        let spare = vec![in alloc; 0; 2 * picture.samples().len()].map_err(|_| NoMemory)?;
-        Ok(Store {
+        let frame = vec![in alloc; 0; 2 * picture.samples().len()].map_err(|_| NoMemory)?;
+        Ok(Workspace {
             decisions,
             levels,
             picture,
-            spare,
+            frame,
         })
     }
 
     /// Takes on the size of a head. Memory is taken only where it was another.
     pub(crate) fn fit(&mut self, alloc: Global, head: &Head) -> Result<(), NoMemory>
-        requires { IsStore self.old }
+        requires { IsWorkspace self.old }
         ensures { OnOk result (HasRoom self.new head.now.mb_wide head.now.mb_high) }
     {
         if self.picture.mb_wide() != head.mb_wide || self.picture.mb_high() != head.mb_high {
-            *self = Store::with_size(alloc, head.mb_wide, head.mb_high)?;
+            *self = Workspace::with_size(alloc, head.mb_wide, head.mb_high)?;
         }
         Ok(())
     }
@@ -80,10 +62,7 @@ impl Store {
         ensures reads { ReadsPicture head.now slices.now self.new.picture result }
         ensures room { OnOk result (HasRoom self.new head.now.mb_wide head.now.mb_high) }
     {
-        match read_slices(head, slices, &mut self.decisions, &mut self.levels) {
-            Ok(()) => {}
-            Err(why) => return Err(why),
-        }
+        read_slices(head, slices, &mut self.decisions, &mut self.levels)?;
         reconstruct_intra(head, &self.decisions, &self.levels, &mut self.picture);
         Ok(())
     }
