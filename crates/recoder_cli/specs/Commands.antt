@@ -1,7 +1,8 @@
 -- A command of the code as a form of words.
-use Rattle.recoder_cli.specs.Words.{Form, decode}
+use Rattle.recoder_cli.specs.Words.{Form, decode, cut}
 use Rattle.recoder_cli.specs.declared.words.Command.{Command}
-use Rattle.recoder_cli.specs.declared.words.Command.TheVariants.{Decode}
+use Rattle.recoder_cli.specs.declared.words.Command.TheVariants.{Decode, Cut}
 
 abbrev pub form_given : Command → Form
 form_given (Decode name) = decode name.now
+form_given (Cut list) = cut list.now

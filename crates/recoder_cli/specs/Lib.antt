@@ -1,4 +1,4 @@
 pub mod Words
 pub mod Commands
 pub mod Outcomes
-pub mod Says
+pub mod Said

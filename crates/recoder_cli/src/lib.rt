@@ -2,7 +2,7 @@
 //!
 //! Its promise: `run` ends as `IsOutcomeOf` in `specs/Outcomes.antt` defines for the form of the words and the inputs, in
 //! status and output, but for want of memory and counted faults of its endpoints. Which words have a form stands in
-//! `specs/Words.antt`, and what is said of a status in `specs/Says.antt`.
+//! `specs/Words.antt`, and what is said of a status in `specs/Said.antt`.
 #![tactic(auto)]
 
 mod clean;
@@ -14,14 +14,16 @@ mod words;
 
 ghost use Rattle.std.specs.Prelude.{◌≡◌, ◌↔◌, None};
 ghost use Rattle.std.specs.Option.{ForSome};
-ghost use Rattle.std.specs.Io.KnownBytes.{Keeps, IsAtEnd};
-ghost use Rattle.mv_ends.specs.Causes.{Rose, NeverFall, Counts, FailedWrite};
+ghost use Rattle.std.specs.Io.KnownBytes.{Keeps};
+ghost use Rattle.mv_ends.specs.Causes.{Counts, FailedWrite};
+ghost use Rattle.mv_ends.specs.Complete.{IsComplete, NoneRose};
+ghost use Rattle.mv_ends.specs.Shelves.{KeepsShelf};
 ghost use Rattle.mv_ends.specs.Ends.{Ends, Outcome};
 ghost use Rattle.mv_terms.specs.Texts.{line_of};
-ghost use Rattle.y4m_frames.specs.Endings.{ending_of};
-ghost use Rattle.recoder_cli.specs.Words.{form_of, texts, name_in};
-ghost use Rattle.recoder_cli.specs.Outcomes.{AppendsGivenOf, IsOutcomeOf, taken_of};
-ghost use Rattle.recoder_cli.specs.Says.{Says};
+ghost use Rattle.mv_ends.specs.Endings.{ending_of};
+ghost use Rattle.recoder_cli.specs.Words.{form_of, texts};
+ghost use Rattle.recoder_cli.specs.Outcomes.{FailsToOpen, FailsToRead, IsDoneOver, IsOutcomeOf, IsStatusOf};
+ghost use Rattle.recoder_cli.specs.Said.{IsSaid};
 
 pub use clean::run_clean;
 pub use commands::perform;
@@ -40,36 +42,48 @@ pub fn run<S: Shelf, O: Sink, M: Sink>(
     out: &mut O,
     say: &mut M,
 ) -> Status
-    // Where the inputs are told, a command ends as it is defined, but for want of memory and for the faults below.
-    ensures ends { ForSome (form_of (texts words.now)) (λ form. ForSome (S.named shelf.old)
-        (λ inputs. (outcome : Outcome Status) × IsOutcomeOf form inputs outcome × Ends outcome (ending_of result) (O.written out.old) (O.written out.new))) }
-    ensures done { result ≡ Status.Done → IsAtEnd (S.rest shelf.new) }
+    // Where the inputs are told, a command ends as it is defined, but for want of memory and for the faults below; and
+    // where no count of faults rose, it ends so but for want of memory.
+    ensures ends { ForSome (form_of (texts words.now)) (λ form. ForSome (S.named shelf.old) (λ inputs.
+        (outcome : Outcome Status) × IsOutcomeOf form inputs outcome
+        × Ends outcome (ending_of result) (O.written out.old) (O.written out.new))) }
+    ensures complete { ForSome (form_of (texts words.now)) (λ form. ForSome (S.named shelf.old) (λ inputs.
+        NoneRose
+        (record { opens = S.open_faults shelf.old; reads = S.read_faults shelf.old; writes = O.faults out.old })
+        (record { opens = S.open_faults shelf.new; reads = S.read_faults shelf.new; writes = O.faults out.new })
+        → (outcome : Outcome Status) × IsOutcomeOf form inputs outcome
+        × IsComplete outcome result (O.written out.old) (O.written out.new))) }
+    ensures done { result ≡ Status.Done
+        → ForSome (form_of (texts words.now)) (λ form. IsDoneOver form (S.rest shelf.new)) }
 
-    // After a read fault no more stands on the output than what is due to the bytes that were taken.
-    ensures read_part { result ≡ Status.ReadFault → ForSome (form_of (texts words.now)) (λ form. ForSome (S.named shelf.old)
-        (λ inputs. ForSome (S.rest shelf.new) (λ left. AppendsGivenOf form inputs (taken_of form inputs left) (O.written out.old) (O.written out.new)))) }
-
-    // The words alone decide whether they are of no form, and then nothing is written.
+    // The words alone decide whether they are of no form, and then nothing is written. Otherwise only statuses of the
+    // command come.
     ensures words { (result ≡ Status.Words) ↔ (form_of (texts words.now) ≡ None) }
     ensures nothing { result ≡ Status.Words → Keeps (O.written out.old) (O.written out.new) }
+    ensures kind { ForSome (form_of (texts words.now)) (λ form. IsStatusOf form result) }
 
-    // A fault of an endpoint is answered only where it was counted in this call, for the name that the words give.
-    ensures open_fault { result ≡ Status.OpenFault → ForSome (form_of (texts words.now))
-        (λ form. Rose (S.open_faults shelf.old (name_in form)) (S.open_faults shelf.new (name_in form))) }
-    ensures read_fault { result ≡ Status.ReadFault → ForSome (form_of (texts words.now))
-        (λ form. Rose (S.read_faults shelf.old (name_in form)) (S.read_faults shelf.new (name_in form))) }
-    ensures write_fault { result ≡ Status.WriteFault → FailedWrite (O.faults out.old) (O.faults out.new) (O.room out.old) (O.written out.old) (O.written out.new) }
+    // A fault of an endpoint is answered only where it was counted in this call, for a name that the words give, and
+    // what is written then is known.
+    ensures open_fault { result ≡ Status.OpenFault → ForSome (form_of (texts words.now)) (λ form.
+        FailsToOpen form (S.named shelf.old) (S.open_faults shelf.old) (S.open_faults shelf.new)
+        (O.written out.old) (O.written out.new)) }
+    ensures read_fault { result ≡ Status.ReadFault → ForSome (form_of (texts words.now)) (λ form.
+        FailsToRead form (S.named shelf.old) (S.rest shelf.new) (S.read_faults shelf.old) (S.read_faults shelf.new)
+        (O.written out.old) (O.written out.new)) }
+    ensures write_fault { result ≡ Status.WriteFault
+        → FailedWrite (O.faults out.old) (O.faults out.new)
+        (O.room out.old) (O.written out.old) (O.written out.new) }
 
     // The line of the status is said, as far as no write to `say` fails.
-    ensures said { Says (M.faults say.old) (M.faults say.new) (M.room say.old) (M.written say.old) (M.written say.new) (line_of result) }
+    ensures said { IsSaid M.written M.faults M.room say.old say.new (line_of result) }
 
     ensures same_room { O.room out.new ≡ O.room out.old }
-    ensures count { Counts (O.faults out.old) (O.faults out.new) (O.room out.old) (O.written out.old) (O.written out.new) }
+    ensures count { Counts (O.faults out.old) (O.faults out.new)
+        (O.room out.old) (O.written out.old) (O.written out.new) }
     ensures say_room { M.room say.new ≡ M.room say.old }
-    ensures say_count { Counts (M.faults say.old) (M.faults say.new) (M.room say.old) (M.written say.old) (M.written say.new) }
-    ensures inputs { S.named shelf.new ≡ S.named shelf.old }
-    ensures opens { NeverFall (S.open_faults shelf.old) (S.open_faults shelf.new) }
-    ensures reads { NeverFall (S.read_faults shelf.old) (S.read_faults shelf.new) }
+    ensures say_count { Counts (M.faults say.old) (M.faults say.new)
+        (M.room say.old) (M.written say.old) (M.written say.new) }
+    ensures kept { KeepsShelf S.named S.open_faults S.read_faults shelf.old shelf.new }
 {
     let status = match parse(words) {
         None => Status::Words,

@@ -3,22 +3,43 @@ ghost use Rattle.std.specs.Prelude.{◌≡◌, ◌++◌};
 ghost use Rattle.mv_ends.specs.Causes.{Counts};
 ghost use Rattle.mv_ends.specs.Moves.{joined};
 ghost use Rattle.mv_terms.specs.Texts.{line_of, frame_fault_text, line_fault_text};
-ghost use Rattle.recoder_cli.specs.Says.{Says};
+ghost use Rattle.recoder_cli.specs.Said.{IsSaid};
 
 use itoa::Buffer;
 use mv_ends::{Sink, send_all};
 use mv_terms::{FrameFault, LineFault, Status, Why};
 
-// Says the pieces, as far as no write fails.
-fn say_all<M: Sink>(say: &mut M, pieces: &[&[u8]])
-    ensures said { Says (M.faults say.old) (M.faults say.new) (M.room say.old) (M.written say.old) (M.written say.new) (joined pieces.now) }
+/// Says the line of a status, as far as no write fails.
+pub fn tell<M: Sink>(say: &mut M, status: &Status)
+    ensures said { IsSaid M.written M.faults M.room say.old say.new (line_of status.now) }
     ensures same_room { M.room say.new ≡ M.room say.old }
-    ensures count { Counts (M.faults say.old) (M.faults say.new) (M.room say.old) (M.written say.old) (M.written say.new) }
+    ensures count { Counts (M.faults say.old) (M.faults say.new)
+        (M.room say.old) (M.written say.old) (M.written say.new) }
+{
+    match status {
+        Status::Done => say_all(say, &[]),
+        Status::Words => say_all(say, &["words\n".as_bytes()]),
+        Status::Unit(unit, why) => say_unit(say, *unit, why),
+        Status::Frames(fault) => say_frames(say, fault),
+        Status::Line(n, fault) => say_line(say, *n, fault),
+        Status::OpenFault => say_all(say, &["open\n".as_bytes()]),
+        Status::ReadFault => say_all(say, &["read\n".as_bytes()]),
+        Status::WriteFault => say_all(say, &["write\n".as_bytes()]),
+        Status::NoMemory => say_all(say, &["memory\n".as_bytes()]),
+    }
+}
+
+/// Says the pieces, as far as no write fails.
+fn say_all<M: Sink>(say: &mut M, pieces: &[&[u8]])
+    ensures said { IsSaid M.written M.faults M.room say.old say.new (joined pieces.now) }
+    ensures same_room { M.room say.new ≡ M.room say.old }
+    ensures count { Counts (M.faults say.old) (M.faults say.new)
+        (M.room say.old) (M.written say.old) (M.written say.new) }
 {
     let _ = send_all(say, pieces);
 }
 
-// The text of a frame file's fault, in three pieces, of which the second is its number.
+/// The text of a frame file's fault, in three pieces, of which the second is its number.
 fn frame_pieces<'a>(fault: &FrameFault, digits: &'a mut Buffer) -> (&'a str, &'a str, &'a str)
     ensures { result.0.now ++ (result.1.now ++ result.2.now) ≡ frame_fault_text fault.now }
 {
@@ -32,7 +53,7 @@ fn frame_pieces<'a>(fault: &FrameFault, digits: &'a mut Buffer) -> (&'a str, &'a
     }
 }
 
-// The text of a line's fault, in three pieces.
+/// The text of a line's fault, in three pieces.
 fn line_pieces<'a>(fault: &LineFault, digits: &'a mut Buffer) -> (&'a str, &'a str, &'a str)
     ensures { result.0.now ++ (result.1.now ++ result.2.now) ≡ line_fault_text fault.now }
 {
@@ -44,12 +65,12 @@ fn line_pieces<'a>(fault: &LineFault, digits: &'a mut Buffer) -> (&'a str, &'a s
     }
 }
 
-// Says a frame file's fault.
+/// Says a frame file's fault.
 fn say_frames<M: Sink>(say: &mut M, fault: &FrameFault)
-    ensures said { Says (M.faults say.old) (M.faults say.new) (M.room say.old) (M.written say.old) (M.written say.new)
-        (line_of (Status.Frames fault.now)) }
+    ensures said { IsSaid M.written M.faults M.room say.old say.new (line_of (Status.Frames fault.now)) }
     ensures same_room { M.room say.new ≡ M.room say.old }
-    ensures count { Counts (M.faults say.old) (M.faults say.new) (M.room say.old) (M.written say.old) (M.written say.new) }
+    ensures count { Counts (M.faults say.old) (M.faults say.new)
+        (M.room say.old) (M.written say.old) (M.written say.new) }
 {
     let mut digits = Buffer::new();
     let (before, number, after) = frame_pieces(fault, &mut digits);
@@ -64,12 +85,12 @@ fn say_frames<M: Sink>(say: &mut M, fault: &FrameFault)
     );
 }
 
-// Says a reason, behind the number of its unit.
+/// Says a reason, behind the number of its unit.
 fn say_unit<M: Sink>(say: &mut M, unit: u64, why: &Why)
-    ensures said { Says (M.faults say.old) (M.faults say.new) (M.room say.old) (M.written say.old) (M.written say.new)
-        (line_of (Status.Unit unit why.now)) }
+    ensures said { IsSaid M.written M.faults M.room say.old say.new (line_of (Status.Unit unit why.now)) }
     ensures same_room { M.room say.new ≡ M.room say.old }
-    ensures count { Counts (M.faults say.old) (M.faults say.new) (M.room say.old) (M.written say.old) (M.written say.new) }
+    ensures count { Counts (M.faults say.old) (M.faults say.new)
+        (M.room say.old) (M.written say.old) (M.written say.new) }
 {
     let mut digits = Buffer::new();
     let number = digits.format(unit);
@@ -91,12 +112,12 @@ fn say_unit<M: Sink>(say: &mut M, unit: u64, why: &Why)
     );
 }
 
-// Says a line's fault, behind the number of the line.
+/// Says a line's fault, behind the number of the line.
 fn say_line<M: Sink>(say: &mut M, line: u32, fault: &LineFault)
-    ensures said { Says (M.faults say.old) (M.faults say.new) (M.room say.old) (M.written say.old) (M.written say.new)
-        (line_of (Status.Line line fault.now)) }
+    ensures said { IsSaid M.written M.faults M.room say.old say.new (line_of (Status.Line line fault.now)) }
     ensures same_room { M.room say.new ≡ M.room say.old }
-    ensures count { Counts (M.faults say.old) (M.faults say.new) (M.room say.old) (M.written say.old) (M.written say.new) }
+    ensures count { Counts (M.faults say.old) (M.faults say.new)
+        (M.room say.old) (M.written say.old) (M.written say.new) }
 {
     let mut digits = Buffer::new();
     let mut more = Buffer::new();
@@ -113,23 +134,4 @@ fn say_line<M: Sink>(say: &mut M, line: u32, fault: &LineFault)
             "\n".as_bytes(),
         ],
     );
-}
-
-/// Says the line of a status, as far as no write fails.
-pub fn tell<M: Sink>(say: &mut M, status: &Status)
-    ensures said { Says (M.faults say.old) (M.faults say.new) (M.room say.old) (M.written say.old) (M.written say.new) (line_of status.now) }
-    ensures same_room { M.room say.new ≡ M.room say.old }
-    ensures count { Counts (M.faults say.old) (M.faults say.new) (M.room say.old) (M.written say.old) (M.written say.new) }
-{
-    match status {
-        Status::Done => say_all(say, &[]),
-        Status::Words => say_all(say, &["words\n".as_bytes()]),
-        Status::Unit(unit, why) => say_unit(say, *unit, why),
-        Status::Frames(fault) => say_frames(say, fault),
-        Status::Line(n, fault) => say_line(say, *n, fault),
-        Status::OpenFault => say_all(say, &["open\n".as_bytes()]),
-        Status::ReadFault => say_all(say, &["read\n".as_bytes()]),
-        Status::WriteFault => say_all(say, &["write\n".as_bytes()]),
-        Status::NoMemory => say_all(say, &["memory\n".as_bytes()]),
-    }
 }

@@ -1,6 +1,7 @@
+//! Runs over endpoints in memory: what each stream gives, and what stands where an endpoint fails.
 use crate::{run, run_clean};
 use mv_ends::{CleanShelf, CleanSink, MemShelf, MemSink};
-use mv_terms::{Status, Why};
+use mv_terms::{LineFault, Status, Why};
 use std::alloc::{AllocError, Global};
 use std::process::Abort;
 use std::test::Fail;
@@ -354,5 +355,50 @@ fn other_words_have_no_form(rt: HostRuntime) -> Result<(), Fail> {
         Status::Words
     );
     assert_eq!(rt; say.bytes(), b"words\n".as_slice());
+    Ok(())
+}
+
+// A list `l`; `a`, a frame file of one grey frame; `b`, the header line of a file of another size.
+fn inputs_of_cut(alloc: Global, list: &[u8]) -> Result<Vec<(String, Vec<u8>)>, AllocError> {
+    let mut inputs = inputs(alloc, &grey_frames(alloc, 1)?)?;
+    inputs.push((String::from_str(alloc, "l")?, list.to_vec(alloc)?))?;
+    let other = b"YUV4MPEG2 W80 H64 F25:1 Ip A0:0 C420p10\n".as_slice();
+    inputs.push((String::from_str(alloc, "b")?, other.to_vec(alloc)?))?;
+    Ok(inputs)
+}
+
+#[test]
+fn listed_frames_are_joined(rt: HostRuntime) -> Result<(), Fail> {
+    let alloc = rt.alloc();
+    let rows: [(&[u8], Status, usize, &str); 4] = [
+        (b"a 0 0\na 0 0\n", Status::Done, 2, ""),
+        (
+            b"a 0 1",
+            Status::Line(1, LineFault::ShortInput),
+            1,
+            "line 1: ShortInput\n",
+        ),
+        (
+            b"a 01 2\n",
+            Status::Line(1, LineFault::BadLine),
+            0,
+            "line 1: BadLine\n",
+        ),
+        (
+            b"a 0 0\nb 0 0\n",
+            Status::Line(2, LineFault::Differs),
+            1,
+            "line 2: Differs\n",
+        ),
+    ];
+    let words = words(alloc, &["cut", "l"])?;
+    for (list, status, frames, line) in rows {
+        let mut shelf = CleanShelf::new(inputs_of_cut(alloc, list)?);
+        let mut out = MemSink::with_room(alloc, 40_000)?;
+        let mut say = MemSink::with_room(alloc, 40)?;
+        assert_eq!(rt; run(alloc, &words, &mut shelf, &mut out, &mut say), status);
+        assert_eq!(rt; out.bytes(), grey_frames(alloc, frames)?.as_slice());
+        assert_eq!(rt; say.bytes(), line.as_bytes());
+    }
     Ok(())
 }

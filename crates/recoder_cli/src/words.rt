@@ -9,6 +9,8 @@ ghost use Rattle.recoder_cli.specs.Commands.{form_given};
 pub enum Command<'a> {
     /// Decodes the stream of this name.
     Decode(&'a str),
+    /// Joins the frames that the list of this name lists.
+    Cut(&'a str),
 }
 
 // What a verb with a name asks for.
@@ -20,6 +22,7 @@ fn named<'a>(verb: &str, name: &'a str) -> Option<Command<'a>>
     }
     match verb {
         "decode" => Some(Command::Decode(name)),
+        "cut" => Some(Command::Cut(name)),
         _ => None,
     }
 }

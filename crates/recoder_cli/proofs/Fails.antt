@@ -1,0 +1,25 @@
+-- What is known where an endpoint of a command fails.
+use Rattle.std.proofs.Common.{◌≡◌, ℕ, List, Option, sym, subst, ◌⊎◌, inl, inr}
+use Rattle.mv_ends.specs.Causes.{Rose}
+use Rattle.mv_ends.specs.Moves.{Inputs}
+use Rattle.job_decode.specs.Stream.{AppendsTaken}
+use Rattle.recoder_cli.specs.Words.{Form, decode, cut}
+use Rattle.cut_list.specs.Cut.{FailsToOpenCut, FailsToReadCut}
+use Rattle.recoder_cli.specs.Outcomes.{FailsToOpen, FailsToRead}
+
+-- so many bytes of the input that `decode` names were taken
+pub decode_fails_to_read : (form : Form) (name : List ℕ) (named : Option Inputs) (rest : Option (List ℕ)) (before now : List ℕ → ℕ) (old new : Option (List ℕ))
+    → form ≡ decode name → Rose (before name) (now name) → AppendsTaken name named rest old new → FailsToRead form named rest before now old new
+decode_fails_to_read form name named rest before now old new is rose part =
+    subst (λ (f : Form). FailsToRead f named rest before now old new) (sym is) (rose, part)
+
+-- the faults of some name rose
+pub opening_rose : (form : Form) (named : Option Inputs) (before now : List ℕ → ℕ) (old new : Option (List ℕ)) → FailsToOpen form named before now old new → (name : List ℕ) × Rose (before name) (now name)
+opening_rose (decode name) named before now old new h = (name, h.0)
+opening_rose (cut list) named before now old new (inl h) = (list, h.0)
+opening_rose (cut list) named before now old new (inr (entries, listed, (line, at, written))) = (at.entry.name, at.rose)
+
+pub reading_rose : (form : Form) (named : Option Inputs) (rest : Option (List ℕ)) (before now : List ℕ → ℕ) (old new : Option (List ℕ)) → FailsToRead form named rest before now old new → (name : List ℕ) × Rose (before name) (now name)
+reading_rose (decode name) named rest before now old new h = (name, h.0)
+reading_rose (cut list) named rest before now old new (inl h) = (list, h.0)
+reading_rose (cut list) named rest before now old new (inr (entries, listed, (line, at, written))) = (at.entry.name, at.rose)
