@@ -8,15 +8,6 @@ use std::io;
 
 const LONGEST: usize = 17;
 
-/// The bytes of a code of `size` bits that are the number `value`: behind it a bit 1, then zeros.
-fn code_bytes(value: u64, size: usize) -> [u8; 8]
-    requires room { size < 64 }
-    requires fits { value < 2 ^ size }
-    ensures { bits_of result ≡ digits size value ++ true ∷ replicate (63 - size) false }
-{
-    ((2 * value + 1) << (63 - size)).to_be_bytes()
-}
-
 /// Prints the codes of each table, the short ones first.
 pub(crate) fn print_codes(rt: &impl Print) -> io::Result<()> {
     for table in Table::ALL {
@@ -50,4 +41,13 @@ fn print_code(rt: &impl Print, table: Table, value: u64, size: usize) -> io::Res
         }
         _ => Ok(()),
     }
+}
+
+/// The bytes of a code of `size` bits that are the number `value`: behind it a bit 1, then zeros.
+fn code_bytes(value: u64, size: usize) -> [u8; 8]
+    requires room { size < 64 }
+    requires fits { value < 2 ^ size }
+    ensures { bits_of result ≡ digits size value ++ true ∷ replicate (63 - size) false }
+{
+    ((2 * value + 1) << (63 - size)).to_be_bytes()
 }
