@@ -12,6 +12,7 @@ use mv_terms::{Decision, Head, MacroLevels};
 
 /// Writes the picture of these intra macroblocks (H.262, 7.4 to 7.6.8) into a picture of its size. Decisions and
 /// levels stand row after row, and nothing that stood in `to` before has any effect.
+#[inline(never)]
 pub fn reconstruct_intra(
     head: &Head,
     decisions: &[Decision],
