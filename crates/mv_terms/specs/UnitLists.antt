@@ -13,4 +13,10 @@ pub record UnitLists : Type 0 where
 
 -- the lists that are lent
 abbrev pub lent_unit : UnitParts → UnitLists
-lent_unit u = record { prefix = u.prefix.now; head = u.head.now; slices = u.slices.now; zeros = u.zeros; end = u.end }
+lent_unit u = record {
+  prefix = u.prefix.now;
+  head = u.head.now;
+  slices = u.slices.now;
+  zeros = u.zeros;
+  end = u.end;
+}
