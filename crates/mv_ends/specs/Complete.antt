@@ -16,8 +16,10 @@ pub record FaultCounts : Type 0 where
 
 -- The status is that of a fault only where this fault's count rose in the call, of an input for some name.
 pub record FaultsAreCounted (before now : FaultCounts) (answered : Status) : Type 0 where
-  pub opens : answered ≡ status.OpenFault → (name : List ℕ) × Rose (before.opens name) (now.opens name)
-  pub reads : answered ≡ status.ReadFault → (name : List ℕ) × Rose (before.reads name) (now.reads name)
+  pub opens : answered ≡ status.OpenFault → (name : List ℕ)
+      × Rose (before.opens name) (now.opens name)
+  pub reads : answered ≡ status.ReadFault → (name : List ℕ)
+      × Rose (before.reads name) (now.reads name)
   pub writes : answered ≡ status.WriteFault → Rose before.writes now.writes
 
 -- No count rose.

@@ -6,10 +6,12 @@ use Rattle.mv_ends.specs.Moves.{AppendsFront}
 
 -- All the bytes were written, or only a front of them, where the sink failed. What a sink tells is given: the bytes that
 -- it took, its count of faults, and how many bytes it surely takes.
-pub record Sends {O T E : Type 0} (written : O → Option (List ℕ)) (faults room : O → ℕ) (old new : O) (bytes : List ℕ) (result : Result T E) : Type 0 where
+pub record Sends {O T E : Type 0} (written : O → Option (List ℕ)) (faults room : O → ℕ)
+    (old new : O) (bytes : List ℕ) (result : Result T E) : Type 0 where
   pub sent : OnOk result (Appends (written old) (written new) bytes)
   pub front : OnErr result (AppendsFront (written old) (written new) bytes)
   pub same_room : room new ≡ room old
   pub count : Counts (faults old) (faults new) (room old) (written old) (written new)
   -- it fails only where the sink did, and counted it
-  pub failed : OnErr result (FailedWrite (faults old) (faults new) (room old) (written old) (written new))
+  pub failed : OnErr result
+      (FailedWrite (faults old) (faults new) (room old) (written old) (written new))
