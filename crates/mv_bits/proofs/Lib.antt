@@ -9,3 +9,6 @@ pub mod RunLaws
 pub mod ReadingLaws
 pub mod Decisions
 pub mod KeptLaws
+pub mod CompareLemmas
+pub mod WritingLemmas
+pub mod BackLaws
