@@ -50,7 +50,8 @@ is_same_flag false false = true
 is_same_flag a b = false
 
 abbrev pub is_same_size : CodedSize → CodedSize → Bool
-is_same_size a b = a.mb_wide == b.mb_wide && a.mb_high == b.mb_high && is_same_flag a.progressive b.progressive
+is_same_size a b =
+    a.mb_wide == b.mb_wide && a.mb_high == b.mb_high && is_same_flag a.progressive b.progressive
 
 -- the size is that of the first unit, where there was one
 unfoldable pub keeps_size : Option CodedSize → CodedSize → Bool
@@ -135,7 +136,8 @@ is_f_code code = nat_le 1 code && nat_le code 9
 
 -- the two f_codes of a direction are 1 to 9, where the direction is used
 unfoldable pub are_f_codes : Bool → ℕ → ℕ → Bool
-are_f_codes used horizontal vertical = if used then is_f_code horizontal && is_f_code vertical else true
+are_f_codes used horizontal vertical =
+    if used then is_f_code horizontal && is_f_code vertical else true
 
 -- picture_structure (H.262, table 6-14): 1 and 2 are fields, 3 is a frame
 unfoldable pub frame_structure : ℕ → Result (Unit {0}) Why
@@ -169,12 +171,15 @@ picture_coding_extension pic = do
   skip 1  -- progressive_frame
   composite ← field 1
   skip (composite_bits composite)
-  check (are_f_codes (has_forward pic (concealment == 1)) forward_horizontal forward_vertical) BadHead
+  check
+      (are_f_codes (has_forward pic (concealment == 1)) forward_horizontal forward_vertical) BadHead
   check (are_f_codes (has_backward pic) backward_horizontal backward_vertical) BadHead
   need (frame_structure structure)
   end BadHead
   done (record {
-    f_code = (forward_horizontal ∷ forward_vertical ∷ []) ∷ (backward_horizontal ∷ backward_vertical ∷ []) ∷ [];
+    f_code =
+        (forward_horizontal ∷ forward_vertical ∷ [])
+        ∷ (backward_horizontal ∷ backward_vertical ∷ []) ∷ [];
     dc_precision = dc_precision;
     frame_only = frame_only == 1;
     concealment = concealment == 1;
