@@ -13,7 +13,8 @@ use super::inverse_lines::inverse_of_line;
 #[inline(always)]
 pub fn inverse_of_rows(block: &[i16; 64], turned: &mut [i32; 64])
     ensures small { IsWithin (2 ^ 15) (entry block.now) }
-    ensures value { (x v : ℕ) → x < 8 → v < 8 → entry turned.new x v ≡ inverse_line (entry block.now v) x }
+    ensures value { (x v : ℕ) → x < 8 → v < 8
+        → entry turned.new x v ≡ inverse_line (entry block.now v) x }
 {
     for row in 0..8 {
         let line = inverse_of_line(&row_of(block, row));
@@ -26,7 +27,8 @@ pub fn inverse_of_rows(block: &[i16; 64], turned: &mut [i32; 64])
 /// Puts the forward transform of each row into a column.
 pub fn forward_of_rows(block: &[i64; 64], turned: &mut [i64; 64])
     requires { IsWithin (2 ^ 30) (entry block.now) }
-    ensures { (u y : ℕ) → u < 8 → y < 8 → entry turned.new u y ≡ forward_line (entry block.now y) u }
+    ensures { (u y : ℕ) → u < 8 → y < 8
+        → entry turned.new u y ≡ forward_line (entry block.now y) u }
 {
     for row in 0..8 {
         let line = forward_of_line(&wide_row_of(block, row));
