@@ -25,7 +25,8 @@ step_at kind k = slice_index kind.matrix k * kind.scale
 -- the dequantised value of one level at (v, u), before mismatch control
 unfoldable pub value_of : Kind → ℕ → ℕ → ℤ → ℤ
 value_of kind v u level =
-    if kind.intra && ((v == 0) && (u == 0)) then saturated (intra_dc_mult kind.dc_precision *ℤ level)
+    if kind.intra && ((v == 0) && (u == 0))
+    then saturated (intra_dc_mult kind.dc_precision *ℤ level)
     else saturated (scaled_level kind.intra (step_at kind (8 * v + u)) level)
 
 abbrev pub is_even : ℤ → Bool
@@ -43,7 +44,8 @@ value_sum kind QF = sum_below 8 (λ v. sum_below 8 (λ u. value_of kind v u (QF 
 -- control changes the lowest bit of the last one
 unfoldable pub dequantised : Kind → (ℕ → ℕ → ℤ) → ℕ → ℕ → ℤ
 dequantised kind QF v u =
-    if ((v == 7) && (u == 7)) && is_even (value_sum kind QF) then toggled (value_of kind v u (QF v u))
+    if ((v == 7) && (u == 7)) && is_even (value_sum kind QF)
+    then toggled (value_of kind v u (QF v u))
     else value_of kind v u (QF v u)
 
 -- a coefficient, mismatch control included, lies in −2048 to 2047, whatever the levels

@@ -20,11 +20,13 @@ kind_of head d = record {
 
 -- a block without coefficients (H.262, 6.3.17.4): of a macroblock that isn't intra, with levels of zero alone
 abbrev pub is_absent : Kind → List ℤ → Bool
-is_absent kind levels = (if kind.intra then false else list_all (λ level. unsigned_abs level == 0) levels)
+is_absent kind levels =
+    (if kind.intra then false else list_all (λ level. unsigned_abs level == 0) levels)
 
 -- the coefficient at (v, u) of a block (H.262, 7.4); those of an absent block are zero, without mismatch control
 unfoldable pub coefficient_at : Kind → List ℤ → ℕ → ℕ → ℤ
-coefficient_at kind levels v u = if is_absent kind levels then pos 0 else dequantised kind (entry levels) v u
+coefficient_at kind levels v u =
+    if is_absent kind levels then pos 0 else dequantised kind (entry levels) v u
 
 -- an absent block has no coefficient but zero
 abbrev pub AbsentIsZero : Type 0

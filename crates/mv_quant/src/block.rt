@@ -11,23 +11,35 @@ use super::Kind;
 /// The coefficients that the levels of a coded block stand for (H.262, 7.4): each in −2048 to 2047, in raster
 /// order, as the levels and the matrix are. A block that isn't coded has no mismatch control and stays zero: it
 /// is not to be given to this call.
-pub fn dequantise(levels: &[i16; 64], kind: &Kind) -> [i16; 64]
-    requires scale { kind.now.scale ≤ 112 }
-    requires precision { kind.now.dc_precision ≤ 3 }
-    ensures { (v u : ℕ) → v < 8 → u < 8 → entry result v u ≡ dequantised kind.now (entry levels.now) v u }
+pub fn dequantise(levels: &[i16; 64], quantiser: &Kind) -> [i16; 64]
+    requires scale { quantiser.now.scale ≤ 112 }
+    requires precision { quantiser.now.dc_precision ≤ 3 }
+    ensures { (v u : ℕ) → v < 8 → u < 8
+        → entry result v u ≡ dequantised quantiser.now (entry levels.now) v u }
 {
-    let mut block = values(levels, kind);
+    let mut block = values(levels, quantiser);
     if has_even(sum_of(&block)) {
         block[63] = toggle(block[63]);
     }
     block
 }
 
+/// What the first level of an intra block stands for, before saturation, by `intra_dc_precision` from 0 to 3 (H.262,
+/// 7.4.1): eight times the mean of the block's samples.
+pub fn first_value(level: i16, dc_precision: u8) -> i32
+    requires { dc_precision ≤ 3 }
+    ensures value { result ≡ intra_dc_mult dc_precision *ℤ level }
+    ensures size { unsigned_abs result ≤ 2 ^ 18 }
+{
+    product(dc_factor(dc_precision), i32::from(level))
+}
+
 // The values of a block's levels, before mismatch control.
 fn values(levels: &[i16; 64], kind: &Kind) -> [i16; 64]
     requires scale { kind.now.scale ≤ 112 }
     requires precision { kind.now.dc_precision ≤ 3 }
-    ensures { (v u : ℕ) → v < 8 → u < 8 → entry result v u ≡ value_of kind.now v u (entry levels.now v u) }
+    ensures { (v u : ℕ) → v < 8 → u < 8
+        → entry result v u ≡ value_of kind.now v u (entry levels.now v u) }
 {
     let mut block = scaled_levels(levels, kind);
     if kind.intra {
@@ -64,7 +76,7 @@ fn scaled_dc(level: i16, precision: u8) -> i16
     requires { precision ≤ 3 }
     ensures { result ≡ saturated (intra_dc_mult precision *ℤ level) }
 {
-    saturate(product(dc_factor(precision), i32::from(level)))
+    saturate(first_value(level, precision))
 }
 
 fn dc_factor(precision: u8) -> i32

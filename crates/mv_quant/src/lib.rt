@@ -12,7 +12,7 @@ ghost use Rattle.mv_quant.specs.Scale.{scale_of};
 mod block;
 mod laws;
 
-pub use block::dequantise;
+pub use block::{dequantise, first_value};
 pub use laws::{coefficients_law, same_levels_law, saturated_law};
 
 /// How the levels of a block were quantised.
