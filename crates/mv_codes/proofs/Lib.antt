@@ -3,3 +3,7 @@ pub mod TableFacts
 pub mod LookUpLaws
 pub mod LookUpFacts
 mod FirstLemmas
+pub mod SpelledLaws
+pub mod PlaceFacts
+mod LevelFacts
+pub mod WrittenLaws

@@ -6,3 +6,5 @@ pub mod Patterns
 pub mod Motions
 pub mod Sizes
 pub mod Coefficients
+pub mod Spelled
+pub mod Steps
