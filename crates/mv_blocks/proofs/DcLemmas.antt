@@ -18,10 +18,10 @@ twice size = let e : 2 ^ (1 + size) ≡ 2 ^ 1 * 2 ^ size = pow-add 2 1 size in s
 half_of : (size : ℕ) → 2 ^ suc size / 2 ≡ 2 ^ size
 half_of size = let e = twice size in omega (arith, e)
 
-choose_first : (n h : ℕ) (x y : ℤ) → n < h → cond (ltb n h) x y ≡ x
+pub choose_first : (n h : ℕ) (x y : ℤ) → n < h → cond (ltb n h) x y ≡ x
 choose_first n h x y l = grind (arith, nat_tests)
 
-choose_second : (n h : ℕ) (x y : ℤ) → h ≤ n → cond (ltb n h) x y ≡ y
+pub choose_second : (n h : ℕ) (x y : ℤ) → h ≤ n → cond (ltb n h) x y ≡ y
 choose_second n h x y l = grind (arith, nat_tests)
 
 -- a differential in the lower half is negative

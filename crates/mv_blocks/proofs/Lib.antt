@@ -4,3 +4,9 @@ pub mod OutcomeLaws
 mod DcLemmas
 mod PairLemmas
 mod ListedLemmas
+pub mod LevelLaws
+mod DcBack
+mod PairsBack
+mod FitLaws
+pub mod BlockBack
+pub mod LegalLaws

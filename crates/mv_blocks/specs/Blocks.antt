@@ -20,7 +20,8 @@ use Rattle.mv_blocks.specs.Raster.{in_raster}
 abbrev pub dct_diff : ℕ → ℕ → ℤ
 dct_diff zero differential = pos 0
 dct_diff (suc n) differential =
-    if nat_lt differential (2 ^ n) then (pos (differential + 1) -ℤ pos (2 * 2 ^ n)) else pos differential
+    if nat_lt differential (2 ^ n)
+    then (pos (differential + 1) -ℤ pos (2 * 2 ^ n)) else pos differential
 
 -- the DC levels of a precision (H.262, 7.2.1)
 abbrev pub IsDcLevel : ℕ → ℤ → Type 0
@@ -109,7 +110,8 @@ Pairs code start bits (Err why) = (pairs : List Pair) × EndsBlock code start bi
 -- QFS[k]: the level at a place of the scan, from these runs and levels at a place and behind it (H.262, 7.2.2)
 abbrev pub level_at : ℕ → List Pair → ℕ → ℤ
 level_at place [] k = pos 0
-level_at place (p ∷ ps) k = if k == place + p.run then p.level else level_at (place + p.run + 1) ps k
+level_at place (p ∷ ps) k =
+    if k == place + p.run then p.level else level_at (place + p.run + 1) ps k
 
 -- the same of an intra block, whose DC level is at the first place
 abbrev pub intra_level_at : ℤ → List Pair → ℕ → ℤ
@@ -142,7 +144,8 @@ abbrev pub RefusesBlock : BlockCode → ℤ → List Bool → Why → Type 0
 RefusesBlock code predictor bits why = Block code predictor bits (Err why)
 
 -- what reading runs and levels leaves in the levels, and in the bits where it answers Ok
-abbrev pub ReadsPairs : BlockCode → ℕ → List Bool → List Bool → List ℤ → Result (Unit {0}) Why → Type 0
+abbrev pub ReadsPairs : BlockCode → ℕ → List Bool → List Bool → List ℤ → Result (Unit {0}) Why
+    → Type 0
 ReadsPairs code start old new levels (Ok _) =
     (pairs : List Pair)
     × Pairs code start old (Ok (pairs, new))
@@ -150,18 +153,21 @@ ReadsPairs code start old new levels (Ok _) =
 ReadsPairs code start old new levels (Err why) = Pairs code start old (Err why)
 
 -- the same of an intra block, with its DC level
-abbrev pub IntraReads : BlockCode → ℤ → List Bool → List Bool → List ℤ → Result (Unit {0}) Why → Type 0
+abbrev pub IntraReads : BlockCode → ℤ → List Bool → List Bool → List ℤ → Result (Unit {0}) Why
+    → Type 0
 IntraReads code predictor old new levels (Ok _) = IntraBlock code predictor old (Ok (levels, new))
 IntraReads code predictor old new levels (Err why) = IntraBlock code predictor old (Err why)
 
 -- what reading a block leaves in its levels, and in the bits where it answers Ok
-abbrev pub ReadsBlock : BlockCode → ℤ → List Bool → List Bool → List ℤ → Result (Unit {0}) Why → Type 0
+abbrev pub ReadsBlock : BlockCode → ℤ → List Bool → List Bool → List ℤ → Result (Unit {0}) Why
+    → Type 0
 ReadsBlock code predictor old new levels (Ok _) = Block code predictor old (Ok (levels, new))
 ReadsBlock code predictor old new levels (Err why) = RefusesBlock code predictor old why
 
 -- the predictor of the next block's DC level: the DC level of an intra block (H.262, 7.2.1)
 abbrev pub next_predictor : BlockCode → ℤ → List ℤ → ℤ
-next_predictor code predictor levels = if code.intra then slice_index_or levels 0 (pos 0) else predictor
+next_predictor code predictor levels =
+    if code.intra then slice_index_or levels 0 (pos 0) else predictor
 
 -- the first place of the scan of which a pair says the level
 abbrev pub first_place : Bool → ℕ
@@ -175,7 +181,8 @@ pairs_in run (level ∷ levels) = pair run level ∷ pairs_in 0 levels
 
 -- QFS: the levels of a block in the order of the scan
 unfoldable pub in_scan : Bool → List ℤ → List ℤ
-in_scan alternate levels = map (λ k. slice_index_or levels (raster_place alternate k) (pos 0)) (range_with_len 0 64)
+in_scan alternate levels =
+    map (λ k. slice_index_or levels (raster_place alternate k) (pos 0)) (range_with_len 0 64)
 
 -- the runs and levels of a block, without the DC level of an intra block
 abbrev pub pairs_of : List ℤ → Bool → Bool → List Pair
