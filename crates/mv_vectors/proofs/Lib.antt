@@ -1,6 +1,10 @@
 pub mod PredictorLaws
 pub mod PredictableLaws
 pub mod VectorLaws
+pub mod RangeLaws
 pub mod VectorExamples
 pub mod WrapLemmas
 pub mod ReadLemmas
+pub mod DeltaLaws
+pub mod WrittenLaws
+pub mod WriteLemmas

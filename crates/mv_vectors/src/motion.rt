@@ -3,12 +3,14 @@ ghost use Rattle.std.specs.Prelude.{◌≡◌, ◌<◌, ◌&&◌, ◌||◌, not,
 ghost use Rattle.std.specs.Int.{int_div_euclid};
 ghost use Rattle.mv_terms.specs.Decisions.{vector};
 ghost use Rattle.mv_bits.specs.Readings.{ReadsAs};
-ghost use Rattle.mv_vectors.specs.Vectors.{FrameVector, FieldVector, HasReadableCodes, f_code, f_of, is_in_range, resets};
+ghost use Rattle.mv_vectors.specs.Vectors.{FrameVector, FieldVector, HasReadableCodes, directed, f_code, f_of, is_in_range, resets};
+ghost use Rattle.mv_vectors.specs.Inside.{are_vectors_in_range};
 ghost use Rattle.mv_vectors.specs.Skipped.{taken};
-ghost use Rattle.mv_vectors.specs.Steps.{IsWithin, IsInReach, IsFieldVector, ReadsDirection};
+ghost use Rattle.mv_vectors.specs.Steps.{IsWithin, IsInReach, IsFieldVector, ReadsDirection, pair_left};
 
 use crate::component::{is_in_range, read_component};
-use mv_bits::BitWindow;
+use crate::write::write_direction;
+use mv_bits::{BitWindow, BitWriter, Put};
 use mv_terms::{Decision, Head, PicType, Vector, Why};
 use std::marker::Model;
 
@@ -48,10 +50,12 @@ impl Predictors {
     ghost use Rattle.std.specs.Prelude.{◌≡◌, ◌≤◌, [], ◌∷◌, true, false, if◌then◌else◌};
     ghost use Rattle.mv_terms.specs.declared.head.Head.{Head};
     ghost use Rattle.mv_terms.specs.Decisions.{still};
-    ghost use Rattle.mv_vectors.specs.Vectors.{StandsFor, HasReadableCodes, direction, four, predictor_at, resets};
+    ghost use Rattle.mv_vectors.specs.Vectors.{StandsFor, HasReadableCodes, directed, direction, four, predictor_at, resets};
     ghost use Rattle.mv_vectors.specs.Skipped.{taken};
-    ghost use Rattle.mv_vectors.specs.Inside.{are_in_range};
-    ghost use Rattle.mv_vectors.specs.Steps.{ReadsVectors};
+    ghost use Rattle.mv_vectors.specs.Inside.{are_in_range, are_vectors_in_range};
+    ghost use Rattle.mv_vectors.specs.Written.{AreNear, direction_bits};
+    ghost use Rattle.mv_vectors.specs.Steps.{ReadsVectors, with_left};
+    ghost use Rattle.mv_bits.specs.Writing.{Writes};
 
     /// Stand before the first macroblock of a slice.
     #[tactic(auto, unfolding(crate::specs::Vectors::predictor))]
@@ -94,6 +98,43 @@ impl Predictors {
         }
     }
 
+    /// Writes the vectors and the selects of a direction: one vector, or two where the decision says field motion
+    /// (H.262, 6.2.5.2), each component by its canonical delta. The predictors of the direction become what the vectors
+    /// leave (H.262, 7.6.3.3). The vectors are in their ranges, and the predictors as vectors in their ranges leave them.
+    pub fn write<P: Put>(
+        &mut self,
+        out: &mut BitWriter,
+        head: &Head,
+        d: &Decision,
+        backward: bool,
+        to: &mut P,
+    )
+        requires codes { HasReadableCodes head.now (direction backward) }
+        requires range { are_vectors_in_range head.now d.now (direction backward) d.now.field_motion
+            ≡ true }
+        requires near { AreNear head.now self.old (direction backward) }
+        ensures written { Writes P.stands to.old to.new out.old out.new
+            (direction_bits head.now self.old d.now (direction backward) d.now.field_motion) }
+        ensures left { self.new ≡ with_left self.old (direction backward)
+            (directed d.now (direction backward)) d.now.field_motion }
+    {
+        if backward {
+            write_direction(
+                out,
+                head,
+                1,
+                self.backward.first,
+                self.backward.second,
+                d,
+                to,
+            );
+            self.backward = left_by(head, d, 1);
+        } else {
+            write_direction(out, head, 0, self.forward.first, self.forward.second, d, to);
+            self.forward = left_by(head, d, 0);
+        }
+    }
+
     /// Become zero behind a macroblock that asks for it, skipped or not (H.262, 7.6.3.4).
     pub fn pass(&mut self, head: &Head, d: &Decision)
         ensures { self.new ≡ four (λ s r.
@@ -133,6 +174,29 @@ impl PredictorPair {
         first: Vector::STILL,
         second: Vector::STILL,
     };
+}
+
+/// The predictors that the vectors of direction s leave.
+fn left_by(head: &Head, d: &Decision, s: usize) -> PredictorPair
+    requires direction { s < 2 }
+    requires codes { HasReadableCodes head.now s }
+    requires range { are_vectors_in_range head.now d.now s d.now.field_motion ≡ true }
+    ensures value { result ≡ pair_left (directed d.now s) d.now.field_motion }
+    ensures first { IsInReach result.first }
+    ensures second { IsInReach result.second }
+{
+    let [first, second] = d.vectors[s];
+    if d.field_motion {
+        PredictorPair {
+            first: doubled(first),
+            second: doubled(second),
+        }
+    } else {
+        PredictorPair {
+            first,
+            second: first,
+        }
+    }
 }
 
 /// Reads the selects and the vectors of direction s. The predictors stay where they are refused.
