@@ -1,6 +1,8 @@
 pub mod MacroblockLaws
 pub mod PastLaws
 pub mod KindLaws
+pub mod LevelLaws
+pub mod LegalLaws
 mod BlockLemmas
 mod MacroLemmas
 mod PatternLemmas
@@ -8,3 +10,4 @@ mod StageLemmas
 mod ExampleLemmas
 mod MacroblockExamples
 pub mod TypeLemmas
+mod LegalExamples

@@ -1,3 +1,4 @@
 pub mod Past
 pub mod Macroblocks
+pub mod Legal
 pub mod Steps

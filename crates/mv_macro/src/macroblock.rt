@@ -22,8 +22,8 @@ pub(crate) struct Modes {
     pub(crate) scale: u8,
 }
 
-/// Reads what stands before the vectors: the type, and the motion type, the dct type and the scale code where they are
-/// sent. This scale code is in force before.
+/// Reads what stands before the vectors: the type, and the motion type, the dct type and the scale
+/// code where they are sent. This scale code is in force before.
 pub(crate) fn read_modes(w: &mut BitWindow<'_>, head: &Head, scale: u8) -> Result<Modes, Why>
     ensures { ReadsModes head.now scale w.old w.new result }
 {
@@ -42,30 +42,37 @@ pub(crate) fn read_modes(w: &mut BitWindow<'_>, head: &Head, scale: u8) -> Resul
     })
 }
 
-/// Reads the vectors of both directions where they are sent, and the marker behind those of concealment. The decision
-/// has no vectors before.
+/// Reads the vectors of both directions where they are sent, and the marker behind those of
+/// concealment. The decision has no vectors before.
 pub(crate) fn read_motion(
     w: &mut BitWindow<'_>,
     head: &Head,
     flags: &TypeBits,
     predictors: &mut Predictors,
-    d: &mut Decision,
+    decision: &mut Decision,
 ) -> Result<(), Why>
     requires forward { (flags.now.forward || has_concealment head.now flags.now) ≡ true
         → HasReadableCodes head.now 0 }
     requires backward { flags.now.backward ≡ true → HasReadableCodes head.now 1 }
     ensures { ReadsMotion head.now (flags.now.forward || has_concealment head.now flags.now)
-        flags.now.backward (has_concealment head.now flags.now) predictors.old d.old w.old
-        predictors.new d.new w.new result }
+        flags.now.backward (has_concealment head.now flags.now) predictors.old decision.old w.old
+        predictors.new decision.new w.new result }
 {
     let conceals = has_concealment(head, flags);
-    read_direction(w, head, has_forward(head, flags), false, predictors, d)?;
-    read_direction(w, head, flags.backward, true, predictors, d)?;
+    read_direction(
+        w,
+        head,
+        has_forward(head, flags),
+        false,
+        predictors,
+        decision,
+    )?;
+    read_direction(w, head, flags.backward, true, predictors, decision)?;
     read_marker(w, conceals)
 }
 
-/// Reads the pattern where it is sent, and the blocks: all of an intra macroblock, else those of the pattern; the levels
-/// of the others are zero.
+/// Reads the pattern where it is sent, and the blocks: all of an intra macroblock, else those of
+/// the pattern; the levels of the others are zero.
 pub(crate) fn read_blocks(
     w: &mut BitWindow<'_>,
     head: &Head,
@@ -74,7 +81,8 @@ pub(crate) fn read_blocks(
     blocks: &mut [[i16; 64]; 6],
 ) -> Result<(), Why>
     requires { head.now.dc_precision ≤ 3 }
-    ensures { ReadsBlocks head.now flags.now dc.old w.old (blocks_at dc.new blocks.new w.new) result }
+    ensures { ReadsBlocks head.now flags.now dc.old w.old
+        (blocks_at dc.new blocks.new w.new) result }
 {
     let pattern = read_pattern_where(w, flags.pattern)?;
     if flags.intra {
@@ -84,7 +92,8 @@ pub(crate) fn read_blocks(
     }
 }
 
-/// Reads the six blocks of an intra macroblock, with the predictors of their DC levels as `read_intra_block`.
+/// Reads the six blocks of an intra macroblock, with the predictors of their DC levels as
+/// `read_intra_block`.
 fn read_intra_blocks(
     w: &mut BitWindow<'_>,
     head: &Head,
@@ -145,13 +154,13 @@ fn read_motion_type(w: &mut BitWindow<'_>, sent: bool) -> Result<bool, Why>
     if !sent {
         return Ok(false);
     }
-    let kind = w.take(2);
-    if kind == 0 {
+    let motion_type = w.take(2);
+    if motion_type == 0 {
         Err(Why::BadMacro)
-    } else if kind == 3 {
+    } else if motion_type == 3 {
         Err(Why::Unsupported(unsupported::DUAL_PRIME))
     } else {
-        Ok(kind == 1)
+        Ok(motion_type == 1)
     }
 }
 
@@ -176,14 +185,14 @@ fn read_direction(
     sent: bool,
     backward: bool,
     predictors: &mut Predictors,
-    d: &mut Decision,
+    decision: &mut Decision,
 ) -> Result<(), Why>
     requires { sent ≡ true → HasReadableCodes head.now (direction backward) }
-    ensures { ReadsDirection head.now (direction backward) sent predictors.old d.old w.old
-        predictors.new d.new w.new result }
+    ensures { ReadsDirection head.now (direction backward) sent predictors.old decision.old w.old
+        predictors.new decision.new w.new result }
 {
     if sent {
-        predictors.read(w, head, d, backward)
+        predictors.read(w, head, decision, backward)
     } else {
         Ok(())
     }
@@ -283,8 +292,8 @@ fn component_of_block(i: usize) -> usize
     if i < 4 { 0 } else { i - 3 }
 }
 
-/// Reads block i of an intra macroblock. `dc` has the predictors of the DC levels of Y, Cb and Cr, and that of the
-/// block's component becomes its DC level.
+/// Reads block i of an intra macroblock. `dc` has the predictors of the DC levels of Y, Cb and Cr,
+/// and that of the block's component becomes its DC level.
 fn read_intra_block(
     w: &mut BitWindow<'_>,
     head: &Head,

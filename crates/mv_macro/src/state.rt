@@ -15,7 +15,8 @@ use std::marker::Model;
 
 /// What the macroblocks of a slice so far say to the next one.
 ///
-/// Contracts see it as `Given`: where it stands in the picture, the scale code in force, and the predictors.
+/// Contracts see it as `Given`: where it stands in the picture, the scale code in force, and the
+/// predictors.
 #[derive(Drop)]
 pub struct SliceState {
     pub(crate) first: bool,
@@ -58,12 +59,13 @@ impl SliceState {
     ghost use Rattle.mv_macro.specs.Macroblocks.{decided};
     ghost use Rattle.mv_macro.specs.Steps.{passed, ReadsMacro, ReadsSkipped, StandsFor};
 
-    /// Stands before the first macroblock of a slice, at this column and row of macroblocks; `scale` is the scale code
-    /// of the slice header.
+    /// Stands before the first macroblock of a slice, at this column and row of macroblocks;
+    /// `scale` is the scale code of the slice header.
     #[tactic(auto, unfolding(mv_vectors::specs::Vectors::predictor))]
     pub fn new(head: &Head, scale: u8, mb_x: u16, mb_y: u16) -> SliceState
         requires { head.now.dc_precision ≤ 3 }
-        ensures { StandsFor result head.now (record { scale = scale; mb_x = mb_x; mb_y = mb_y }) [] }
+        ensures { StandsFor result head.now
+            (record { scale = scale; mb_x = mb_x; mb_y = mb_y }) [] }
     {
         SliceState {
             first: true,
@@ -92,84 +94,86 @@ impl SliceState {
         self.mb_x
     }
 
-    /// Reads a macroblock from its `macroblock_type` on: what is decided for it, and the levels of its blocks (H.262,
-    /// 6.2.5). Bits that no code begins are `BadCode`; a motion type 0, a quantiser scale code 0, a marker 0 and a
-    /// pattern 0 are `BadMacro`, and dual prime prediction is `Unsupported`; a vector that leads outside of the
-    /// reference pictures is `BadVector`; a forbidden level and a coefficient behind the last place of a block are
-    /// `BadBlock`. After a refusal, what it was lent holds anything.
+    /// Reads a macroblock from its `macroblock_type` on: what is decided for it, and the levels of
+    /// its blocks (H.262, 6.2.5). Bits that no code begins are `BadCode`; a motion type 0, a
+    /// quantiser scale code 0, a marker 0 and a pattern 0 are `BadMacro`, and dual prime prediction
+    /// is `Unsupported`; a vector that leads outside of the reference pictures is `BadVector`; a
+    /// forbidden level and a coefficient behind the last place of a block are `BadBlock`. After a
+    /// refusal, what it was lent holds anything.
     pub fn read_macro(
         &mut self,
         w: &mut BitWindow<'_>,
         head: &Head,
-        d: &mut Decision,
-        l: &mut MacroLevels,
+        decision: &mut Decision,
+        levels: &mut MacroLevels,
     ) -> Result<(), Why>
         requires f_codes { HasLegalFCodes head.now }
         requires precision { head.now.dc_precision ≤ 3 }
         requires place { self.old.mb_x < head.now.mb_wide }
-        ensures reads { ReadsMacro head.now self.old w.old self.new d.new l.new w.new result }
+        ensures reads { ReadsMacro head.now self.old w.old
+            self.new decision.new levels.new w.new result }
         ensures stands { OnOk result ((start : Start) (past : List CodedMacroblock)
             → StandsFor self.old head.now start past
-            → StandsFor self.new head.now start (coded d.new l.new ∷ past)) }
+            → StandsFor self.new head.now start (coded decision.new levels.new ∷ past)) }
     {
         let modes = read_modes(w, head, self.scale)?;
-        *d = decision(self.first, self.scale, &modes);
-        read_motion(w, head, &modes.flags, &mut self.predictors, d)?;
-        if !inside(head, d, self.mb_x, self.mb_y) {
+        *decision = motionless(self.first, self.scale, &modes);
+        read_motion(w, head, &modes.flags, &mut self.predictors, decision)?;
+        if !inside(head, decision, self.mb_x, self.mb_y) {
             return Err(Why::BadVector);
         }
-        read_blocks(w, head, &modes.flags, &mut self.dc, &mut l.blocks)?;
-        self.pass(head, d);
+        read_blocks(w, head, &modes.flags, &mut self.dc, &mut levels.blocks)?;
+        self.pass(head, decision);
         Ok(())
     }
 
-    /// Finds what is decided for a macroblock that an address increment jumps over (H.262, 7.6.6). In an I picture none
-    /// may be, and in a B picture none behind an intra one: it is `BadMacro`. A vector that it takes over and that is out
-    /// of its range or leads outside is `BadVector`.
-    pub fn read_skipped(&mut self, head: &Head, d: &mut Decision) -> Result<(), Why>
+    /// Finds what is decided for a macroblock that an address increment jumps over (H.262, 7.6.6).
+    /// In an I picture none may be, and in a B picture none behind an intra one: it is `BadMacro`.
+    /// A vector that it takes over and that is out of its range or leads outside is `BadVector`.
+    pub fn read_skipped(&mut self, head: &Head, decision: &mut Decision) -> Result<(), Why>
         requires f_codes { HasLegalFCodes head.now }
         requires precision { head.now.dc_precision ≤ 3 }
         requires place { self.old.mb_x < head.now.mb_wide }
-        ensures { ReadsSkipped head.now self.old self.new d.new result }
+        ensures { ReadsSkipped head.now self.old self.new decision.new result }
     {
         if !may_skip(head, self.before_intra) {
             return Err(Why::BadMacro);
         }
-        *d = skipped(head, self.before_forward, self.before_backward, self.scale);
-        let in_range = self.predictors.skip(head, d);
-        if !both(in_range, inside(head, d, self.mb_x, self.mb_y)) {
+        *decision = skipped(head, self.before_forward, self.before_backward, self.scale);
+        let in_range = self.predictors.skip(head, decision);
+        if !both(in_range, inside(head, decision, self.mb_x, self.mb_y)) {
             return Err(Why::BadVector);
         }
-        self.pass(head, d);
+        self.pass(head, decision);
         Ok(())
     }
 
     /// Moves behind a macroblock whose codes were read, or that is skipped.
-    fn pass(&mut self, head: &Head, d: &Decision)
+    fn pass(&mut self, head: &Head, decision: &Decision)
         requires place { self.old.mb_x < head.now.mb_wide }
         requires precision { head.now.dc_precision ≤ 3 }
-        ensures { self.new ≡ passed head.now self.old d.now }
+        ensures { self.new ≡ passed head.now self.old decision.now }
     {
         // for the proof: the column and the width as 16 bits, so that the next column is one too
         prove!(self.mb_x < head.mb_wide);
         self.first = false;
-        self.scale = d.scale;
-        if !d.intra {
+        self.scale = decision.scale;
+        if !decision.intra {
             self.dc = [reset_level(head); 3];
         }
-        self.predictors.pass(head, d);
+        self.predictors.pass(head, decision);
         self.mb_x += 1;
-        self.before_intra = d.intra;
-        self.before_forward = d.forward;
-        self.before_backward = d.backward;
+        self.before_intra = decision.intra;
+        self.before_forward = decision.forward;
+        self.before_backward = decision.backward;
     }
 }
 
-/// The decision of a macroblock of this type without vectors, where it is the first of its slice or not and this scale
-/// code was in force.
-fn decision(first: bool, scale: u8, modes: &Modes) -> Decision
-    ensures { (g : Given) → g.first ≡ first → g.scale ≡ scale
-        → result ≡ decided g modes.now.flags modes.now.field_motion modes.now.field_dct
+/// The decision of a macroblock of this type without vectors, where it is the first of its slice or
+/// not and this scale code was in force.
+fn motionless(first: bool, scale: u8, modes: &Modes) -> Decision
+    ensures { (before : Given) → before.first ≡ first → before.scale ≡ scale
+        → result ≡ decided before modes.now.flags modes.now.field_motion modes.now.field_dct
         modes.now.scale undirected undirected }
 {
     Decision {

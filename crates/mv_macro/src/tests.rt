@@ -22,7 +22,8 @@ const HEAD: Head = Head {
     },
 };
 
-/// What is decided for an intra macroblock that stands first in its slice, with scale code 9 in force.
+/// What is decided for an intra macroblock that stands first in its slice, with scale code 9 in
+/// force.
 const FIRST: Decision = Decision {
     slice_start: true,
     skipped: false,
@@ -42,28 +43,45 @@ const FIRST: Decision = Decision {
 struct Outcome {
     answer: Result<(), Why>,
     state: SliceState,
-    d: Decision,
-    l: MacroLevels,
+    decision: Decision,
+    levels: MacroLevels,
 }
 
 /// Reads the first macroblock of a slice with scale code 9.
 fn read(rt: &impl Abort, bytes: &[u8], head: &Head) -> Outcome {
     assert!(rt; head.is_legal());
     let mut state = SliceState::new(head, 9, 0, 0);
-    let mut d = Decision {
+    let mut decision = Decision {
         skipped: true,
         ..FIRST
     };
-    let mut l = MacroLevels {
+    let mut levels = MacroLevels {
         blocks: [[7; 64]; 6],
     };
-    let answer = state.read_macro(&mut BitWindow::new(bytes), head, &mut d, &mut l);
+    let mut w = BitWindow::new(bytes);
+    let answer = state.read_macro(&mut w, head, &mut decision, &mut levels);
     Outcome {
         answer,
         state,
-        d,
-        l,
+        decision,
+        levels,
     }
+}
+
+/// The bits that a text of 0 and 1 writes, and zeros behind them.
+fn bytes_of(text: &str) -> [u8; 24] {
+    let mut bytes = [0u8; 24];
+    for (place, bit) in text.bytes().filter(|c| *c != b' ').enumerate() {
+        if bit == b'1' && place < 192 {
+            bytes[place / 8] |= 0x80 >> (place % 8);
+        }
+    }
+    bytes
+}
+
+/// Reads a macroblock written by 0 and 1.
+fn read_text(rt: &impl Abort, text: &str, head: &Head) -> Outcome {
+    read(rt, &bytes_of(text), head)
 }
 
 /// A block with these levels at their places, and zero elsewhere.
@@ -93,17 +111,17 @@ fn a_macroblock_is_read_with_its_blocks(rt: HostRuntime) {
         &head,
     );
     assert_eq!(rt; read.answer, Ok(()));
-    assert_eq!(rt; read.d, FIRST);
-    assert_eq!(rt; read.l.blocks[0], block(&[(0, 532), (1, -2), (8, -2)]));
-    assert_eq!(rt; read.l.blocks[1], block(&[(0, 561), (1, -3), (8, -3)]));
-    assert_eq!(rt; read.l.blocks[2], block(&[(0, 552), (1, -3), (8, -2)]));
-    assert_eq!(rt; read.l.blocks[3], block(&[(0, 589), (1, -4), (8, -2)]));
+    assert_eq!(rt; read.decision, FIRST);
+    assert_eq!(rt; read.levels.blocks[0], block(&[(0, 532), (1, -2), (8, -2)]));
+    assert_eq!(rt; read.levels.blocks[1], block(&[(0, 561), (1, -3), (8, -3)]));
+    assert_eq!(rt; read.levels.blocks[2], block(&[(0, 552), (1, -3), (8, -2)]));
+    assert_eq!(rt; read.levels.blocks[3], block(&[(0, 589), (1, -4), (8, -2)]));
     assert_eq!(rt;
-        read.l.blocks[4],
+        read.levels.blocks[4],
         block(&[(0, 547), (1, -4), (8, -3), (9, 1)])
     );
     assert_eq!(rt;
-        read.l.blocks[5],
+        read.levels.blocks[5],
         block(&[(0, 577), (1, -6), (8, -5), (9, 1)])
     );
     assert_eq!(rt; read.state.mb_x(), 1);
@@ -116,8 +134,8 @@ fn a_scale_code_and_a_dct_type_are_read_where_they_are_sent(rt: HostRuntime) {
     };
     let plain = read(&rt, &[0xCA, 0x52, 0x91, 0x10], &HEAD);
     assert_eq!(rt; plain.answer, Ok(()));
-    assert_eq!(rt; plain.d, FIRST);
-    assert_eq!(rt; plain.l, grey);
+    assert_eq!(rt; plain.decision, FIRST);
+    assert_eq!(rt; plain.levels, grey);
     let head = Head {
         frame_only: false,
         ..HEAD
@@ -125,7 +143,7 @@ fn a_scale_code_and_a_dct_type_are_read_where_they_are_sent(rt: HostRuntime) {
     let quant = read(&rt, &[0x75, 0x94, 0xA5, 0x22, 0x20], &head);
     assert_eq!(rt; quant.answer, Ok(()));
     assert_eq!(rt;
-        quant.d,
+        quant.decision,
         Decision {
             quant: true,
             field_dct: true,
@@ -133,7 +151,7 @@ fn a_scale_code_and_a_dct_type_are_read_where_they_are_sent(rt: HostRuntime) {
             ..FIRST
         }
     );
-    assert_eq!(rt; quant.l, grey);
+    assert_eq!(rt; quant.levels, grey);
 }
 
 #[test]
@@ -167,19 +185,20 @@ const P_HEAD: Head = Head {
 
 #[test]
 fn field_vectors_are_read_with_their_selects(rt: HostRuntime) {
-    // type 001; field motion 01; top field, 5 with residual 1 and 0; bottom field, 1 with residual 0 and 0
+    // type 001; field motion 01; top field, 5 with residual 1 and 0; bottom field, 1 with residual
+    // 0 and 0
     let read = read(&rt, &[0b0010_1000, 0b0010_1011, 0b1010_0100], &P_HEAD);
     assert_eq!(rt; read.answer, Ok(()));
-    assert!(rt; read.d.forward && read.d.field_motion);
-    assert_eq!(rt; read.d.selects, [[false, true], [false, false]]);
+    assert!(rt; read.decision.forward && read.decision.field_motion);
+    assert_eq!(rt; read.decision.selects, [[false, true], [false, false]]);
     assert_eq!(rt;
-        read.d.vectors,
+        read.decision.vectors,
         [
             [Vector { x: 10, y: 0 }, Vector { x: 1, y: 0 }],
             [Vector::STILL; 2]
         ]
     );
-    assert_eq!(rt; read.l, MacroLevels::NONE);
+    assert_eq!(rt; read.levels, MacroLevels::NONE);
 }
 
 #[test]
@@ -192,24 +211,131 @@ fn the_blocks_of_a_pattern_are_read(rt: HostRuntime) {
     // type 01: a pattern without motion; pattern 4, which is Y3; a first coefficient 1 and the end
     let read = read(&rt, &[0b0111_0110, 0b1000_0000], &head);
     assert_eq!(rt; read.answer, Ok(()));
-    assert_eq!(rt; read.l.blocks[3], block(&[(0, 1)]));
-    assert_eq!(rt; read.l.blocks[0], block(&[]));
+    assert_eq!(rt; read.levels.blocks[3], block(&[(0, 1)]));
+    assert_eq!(rt; read.levels.blocks[0], block(&[]));
 }
 
 #[test]
-fn the_refusals_of_a_p_picture_come_in_order(rt: HostRuntime) {
-    let cases: [(&[u8], Why); 5] = [
-        // motion types 0 and 3
-        (&[0b0010_0000], Why::BadMacro),
-        (&[0b0011_1000], Why::Unsupported(unsupported::DUAL_PRIME)),
-        // no motion code, behind frame motion
-        (&[0b0011_0000, 0], Why::BadCode),
-        // the first macroblock would move to the left
-        (&[0b0011_0011, 0b0100_0000], Why::BadVector),
-        // a pattern 0
-        (&[0b0100_0000, 0b0001_0000], Why::BadMacro),
-    ];
-    for (bytes, why) in cases {
-        assert_eq!(rt; read(&rt, bytes, &P_HEAD).answer, Err(why));
+fn the_first_coefficient_of_a_block_has_a_code_of_its_own(rt: HostRuntime) {
+    // type 01, dct type 0, pattern 1010 for Y0 alone; the first coefficient, and the end of the
+    // block
+    for (text, level) in [("01 0 1010 10 10", 1), ("01 0 1010 11 10", -1)] {
+        let read = read_text(&rt, text, &P_HEAD);
+        assert_eq!(rt; read.answer, Ok(()));
+        assert_eq!(rt; read.levels.blocks[0], block(&[(0, level)]));
     }
+}
+
+/// A P picture with concealment vectors, and a B picture.
+const P_CONCEALED: Head = Head {
+    concealment: true,
+    ..P_HEAD
+};
+
+const B_HEAD: Head = Head {
+    pic: PicType::B,
+    f_code: [[2; 2]; 2],
+    ..P_CONCEALED
+};
+
+/// Reads macroblocks that are right, and those that differ from them from the first bit on that is
+/// refused.
+fn refuse(rt: &impl Abort, head: &Head, cases: &[(&str, &str, Why)]) {
+    for (right, wrong, why) in cases {
+        assert_eq!(rt; read_text(rt, right, head).answer, Ok(()));
+        assert_eq!(rt; read_text(rt, wrong, head).answer, Err(*why));
+    }
+}
+
+/// Intra with a concealment vector, and DC levels that are their predictors.
+const CONCEALED: &str = "00011 0 1 1 1 10010 10010 10010 10010 0010 0010";
+
+/// A pattern for a block with an escape.
+const ESCAPED: &str = "01 0 1010 000001 111111 000000000001 10";
+
+/// Forward without a pattern, a pattern with a scale code, a pattern, and intra with a concealment
+/// vector.
+#[rattlefmt::skip]
+const P_CASES: &[(&str, &str, Why)] = &[
+    ("001 10 1 1", "000000", Why::BadCode),
+    ("001 10 1 1", "001 00 1 1", Why::BadMacro),
+    ("001 10 1 1", "001 11 1 1", Why::Unsupported(unsupported::DUAL_PRIME)),
+    ("001 10 1 1", "001 10 00000000000 1", Why::BadCode),
+    ("001 10 1 1", "001 10 1 00000000000", Why::BadCode),
+    // half a sample to the right, and to the left, which leads outside
+    ("001 10 010 0 1", "001 10 011 0 1", Why::BadVector),
+    ("00001 0 00001 1010 10 10", "00001 0 00000 1010 10 10", Why::BadMacro),
+    ("01 0 1010 10 10", "01 0 000000000 1", Why::BadCode),
+    ("01 0 1010 10 10", "01 0 000000001 1", Why::BadMacro),
+    ("01 0 1010 10 10", "01 0 1010 000000000000", Why::BadCode),
+    // the level of an escape, and a level behind place 63
+    (ESCAPED, "01 0 1010 000001 111111 000000000000", Why::BadBlock),
+    (ESCAPED, "01 0 1010 000001 111111 000000000001 110", Why::BadBlock),
+    // the marker, and a DC level below 0
+    (CONCEALED, "00011 0 1 1 0", Why::BadMacro),
+    (CONCEALED, "00011 0 1 1 1 1111110 00000000", Why::BadBlock),
+];
+
+/// Both directions without a pattern, backward with a pattern and a scale code, backward with a
+/// pattern, and intra with a concealment vector.
+#[rattlefmt::skip]
+const B_CASES: &[(&str, &str, Why)] = &[
+    ("10 10 1 1 1 1", "000000", Why::BadCode),
+    ("10 10 1 1 1 1", "10 00 1 1 1 1", Why::BadMacro),
+    ("10 10 1 1 1 1", "10 11 1 1 1 1", Why::Unsupported(unsupported::DUAL_PRIME)),
+    ("10 10 1 1 1 1", "10 10 1 1 1 00000000000", Why::BadCode),
+    // half a sample to the left; the same of the second of two field vectors
+    ("010 10 010 0 1", "010 10 011 0 1", Why::BadVector),
+    ("010 01 0 1 1 1 010 0 1", "010 01 0 1 1 1 011 0 1", Why::BadVector),
+    ("000010 10 0 00001 1 1 1010 10 10", "000010 10 0 00000 1 1 1010 10 10", Why::BadMacro),
+    ("011 10 0 1 1 1010 10 10", "011 10 0 1 1 000000000 1", Why::BadCode),
+    ("011 10 0 1 1 1010 10 10", "011 10 0 1 1 000000001 1", Why::BadMacro),
+    ("011 10 0 1 1 1010 10 10", "011 10 0 1 1 1010 000000000000", Why::BadCode),
+    ("011 10 0 1 1 1010 10 10", "011 10 0 1 1 1010 000001 000000 100000000000 10", Why::BadBlock),
+    (CONCEALED, "00011 0 1 1 0", Why::BadMacro),
+    (CONCEALED, "00011 0 1 1 1 1111110 00000000", Why::BadBlock),
+];
+
+/// Two refusals, of which the first one is answered: a motion type before a scale code, and this
+/// before a vector; a vector that leads outside behind its last component, and before a pattern 0;
+/// a marker before the first block.
+#[rattlefmt::skip]
+const TWO_CASES: &[(&str, &str, Why)] = &[
+    ("001 10 1 1", "00010 11 0 00000", Why::Unsupported(unsupported::DUAL_PRIME)),
+    ("001 10 1 1", "00010 10 0 00000 00000000000", Why::BadMacro),
+    ("001 10 1 1", "1 10 0 011 0 00000000000", Why::BadCode),
+    ("001 10 1 1", "1 10 0 011 0 1 000000001", Why::BadVector),
+    ("001 10 1 1", "00011 0 1 1 0 1111110 00000000 10", Why::BadMacro),
+];
+
+#[test]
+fn each_part_of_a_macroblock_of_a_p_picture_is_refused(rt: HostRuntime) {
+    refuse(&rt, &P_CONCEALED, P_CASES);
+}
+
+#[test]
+fn each_part_of_a_macroblock_of_a_b_picture_is_refused(rt: HostRuntime) {
+    refuse(&rt, &B_HEAD, B_CASES);
+}
+
+#[test]
+fn the_first_of_two_refusals_is_answered(rt: HostRuntime) {
+    refuse(&rt, &P_CONCEALED, TWO_CASES);
+}
+
+#[test]
+fn a_concealment_vector_may_lead_outside(rt: HostRuntime) {
+    let head = Head {
+        concealment: true,
+        f_code: [[1, 1], [15, 15]],
+        ..HEAD
+    };
+    // half a sample to the left and down
+    let read = read_text(&rt, "1 011 010 1 10010 10010 10010 10010 0010 0010", &head);
+    assert_eq!(rt; read.answer, Ok(()));
+    let wanted = Decision {
+        vectors: [[Vector { x: -1, y: 1 }, Vector::STILL], [Vector::STILL; 2]],
+        ..FIRST
+    };
+    assert_eq!(rt; read.decision, wanted);
 }
