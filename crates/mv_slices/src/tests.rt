@@ -47,7 +47,8 @@ const OTHER: Decision = Decision {
     ..GREY_DECISION
 };
 
-/// The bits of a letter in the text of a slice: of the header, of an escape, of macroblocks, or one bit.
+/// The bits of a letter in the text of a slice: of the header, of an escape, of macroblocks, or one
+/// bit.
 fn bits(letter: u8) -> &'static str {
     match letter {
         b'0' => "0",
@@ -61,15 +62,18 @@ fn bits(letter: u8) -> &'static str {
         b's' => "011 1 10010 10010 10010 10010 0010 0010",
         // the same with an increment of 3
         b't' => "010 1 10010 10010 10010 10010 0010 0010",
-        // an intra macroblock of a P or B picture
+        // an intra macroblock of a P or B picture, with a dct type 0, and with a concealment vector
+        // of zero
+        b'j' => "1 00011 0 10010 10010 10010 10010 0010 0010",
+        b'c' => "1 00011 1 1 1 10010 10010 10010 10010 0010 0010",
         b'i' => "1 00011 10010 10010 10010 10010 0010 0010",
-        // forward macroblocks of a P picture without blocks: half a sample to the right of the predictor and to the left,
-        // and at it behind two skipped ones
+        // forward macroblocks of a P picture without blocks: half a sample to the right of the
+        // predictor and to the left, and at it behind two skipped ones
         b'p' => "1 001 010 1",
         b'q' => "1 001 011 1",
         b'k' => "010 001 1 1",
-        // macroblocks of a B picture without blocks: backward, half a sample to the right of the predictor, and forward,
-        // at it behind a skipped one
+        // macroblocks of a B picture without blocks: backward, half a sample to the right of the
+        // predictor, and forward, at it behind a skipped one
         b'w' => "1 010 010 1",
         b'f' => "011 0010 1 1",
         // the first DC levels of luma and of Cb are 1 more than their predictors
@@ -131,6 +135,16 @@ fn read_as(rt: &impl Abort, pic: PicType, slices: &[u8]) -> Outcome {
         pic,
         f_code: [[1; 2]; 2],
         ..HEAD
+    };
+    read_with(rt, head, slices)
+}
+
+/// Reads the slices of a picture of 6 by 4 macroblocks with this head.
+fn read_with(rt: &impl Abort, head: Head, slices: &[u8]) -> Outcome {
+    let head = Head {
+        mb_wide: 6,
+        mb_high: 4,
+        ..head
     };
     assert!(rt; head.is_legal());
     assert!(rt; has_no_front(slices));
@@ -308,5 +322,151 @@ fn a_skipped_macroblock_of_a_b_picture_goes_on_as_the_one_before(
     // none is skipped behind an intra macroblock
     let behind_intra = first_row_as(&rt, rt.alloc(), PicType::B, "Hwfifi")?;
     assert_eq!(rt; behind_intra.answer, Err(Why::BadMacro));
+    Ok(())
+}
+
+#[test]
+fn the_first_refusal_of_a_picture_is_answered(rt: HostRuntime) -> Result<(), Fail> {
+    let alloc = rt.alloc();
+    let bad_code = "Hggg000000001";
+    let cases: [(&[(u8, &str)], Why); 4] = [
+        // no code begins an increment of the first slice, and the second one is in another row; and
+        // the other way round
+        (&[(1, bad_code), (3, GREY)], Why::BadCode),
+        (&[(2, bad_code), (1, GREY)], Why::BadSlice),
+        // a row before the header, and the header before the increment
+        (&[(1, GREY), (2, "000000000000001")], Why::BadSlice),
+        // what isn't covered comes last
+        (&[(1, GREY), (2, bad_code)], Why::BadCode),
+    ];
+    for (rows, why) in cases {
+        assert_eq!(rt; answer(&rt, alloc, rows)?, Err(why));
+    }
+    Ok(())
+}
+
+/// Pictures whose first row has two slices, the second one from increment 3 on, and the horizontal
+/// components of the vectors of a direction in that row.
+#[rattlefmt::skip]
+const TWO_SLICES: &[(PicType, &[(u8, &str)], bool, [i16; 6])] = &[
+    (PicType::P, &[(1, "Hpp"), (1, "X 010 001 010 1 1 001 1 1 q 1 001 1 1"), (2, INTRA), (3, INTRA), (4, INTRA)],
+        false, [1, 2, 1, 1, 0, 0]),
+    (PicType::B, &[(1, "Hww"), (1, "X 010 0010 1 1 wii"), (2, INTRA), (3, INTRA), (4, INTRA)],
+        true, [1, 2, 0, 1, 0, 0]),
+];
+
+/// The horizontal components of the first vectors of a direction in the first row.
+fn across(outcome: &Outcome, backward: bool) -> [i16; 6] {
+    let mut components = [0; 6];
+    for (x, d) in components.iter_mut().zip(&outcome.decisions) {
+        *x = d.vectors[usize::from(backward)][0].x;
+    }
+    components
+}
+
+#[test]
+fn vectors_begin_anew_at_each_slice_of_a_row(rt: HostRuntime) -> Result<(), Fail> {
+    for (pic, rows, backward, wanted) in TWO_SLICES {
+        let outcome = read_as(&rt, *pic, &slices_of(rt.alloc(), rows)?);
+        assert_eq!(rt; outcome.answer, Ok(()));
+        assert_eq!(rt; across(&outcome, *backward), *wanted);
+    }
+    Ok(())
+}
+
+/// Reads a picture with this head whose first row has these letters, and the others those.
+fn read_rows(
+    rt: &impl Abort,
+    alloc: Global,
+    head: Head,
+    text: &str,
+    other: &str,
+) -> Result<Outcome, Fail> {
+    let rows = [(1, text), (2, other), (3, other), (4, other)];
+    Ok(read_with(rt, head, &slices_of(alloc, &rows)?))
+}
+
+/// The head of a B picture with field motion, and that of a P picture with concealment vectors.
+const FIELD_HEAD: Head = Head {
+    pic: PicType::B,
+    f_code: [[1; 2]; 2],
+    frame_only: false,
+    ..HEAD
+};
+
+const CONCEALED_HEAD: Head = Head {
+    pic: PicType::P,
+    f_code: [[1; 2]; 2],
+    concealment: true,
+    ..HEAD
+};
+
+/// Heads, the first rows of pictures and their other rows, and the first forward vectors of the first
+/// two macroblocks.
+#[rattlefmt::skip]
+const TWO_VECTORS: &[(Head, &str, &str, [Vector; 2])] = &[
+    // by fields, 7 half samples down, which is doubled, and a skipped one
+    (FIELD_HEAD, "H 1 0010 01 0 1 00000110 0 1 1 011 0010 10 1 1 jjj", "Hjjjjjj",
+        [Vector { x: 0, y: 7 }, Vector { x: 0, y: 14 }]),
+    // 8 half samples down: twice that is out of the range, into which a code leads back
+    (FIELD_HEAD, "H 1 0010 01 0 1 0000010110 0 1 1 1 0010 10 1 011 jjjj", "Hjjjjjj",
+        [Vector { x: 0, y: 8 }, Vector { x: 0, y: 15 }]),
+    // intra with a concealment vector that leads outside, and one to the right of it
+    (CONCEALED_HEAD, "H 1 00011 011 1 1 10010 10010 10010 10010 0010 0010 1 001 0010 1 cccc", "Hcccccc",
+        [Vector { x: -1, y: 0 }, Vector { x: 1, y: 0 }]),
+];
+
+fn first_vectors(outcome: &Outcome) -> [Vector; 2] {
+    let [first, second, ..] = &outcome.decisions;
+    [first.vectors[0][0], second.vectors[0][0]]
+}
+
+#[test]
+fn a_vector_is_predicted_from_those_of_fields_and_of_concealment(
+    rt: HostRuntime,
+) -> Result<(), Fail> {
+    for (head, text, other, wanted) in TWO_VECTORS {
+        let outcome = read_rows(&rt, rt.alloc(), *head, text, other)?;
+        assert_eq!(rt; outcome.answer, Ok(()));
+        assert_eq!(rt; first_vectors(&outcome), *wanted);
+    }
+    Ok(())
+}
+
+#[test]
+fn a_skipped_macroblock_takes_no_vector_out_of_its_range(rt: HostRuntime) -> Result<(), Fail> {
+    // behind field motion, 8 half samples down
+    let text = "H 1 0010 01 0 1 0000010110 0 1 1 011 0010 10 1 1 jjj";
+    let outcome = read_rows(&rt, rt.alloc(), FIELD_HEAD, text, "Hjjjjjj")?;
+    assert_eq!(rt; outcome.answer, Err(Why::BadVector));
+    Ok(())
+}
+
+#[test]
+fn an_escape_adds_33_to_an_increment(rt: HostRuntime) -> Result<(), Fail> {
+    let head = Head {
+        pic: PicType::P,
+        f_code: [[1; 2]; 2],
+        mb_wide: 40,
+        mb_high: 1,
+        ..HEAD
+    };
+    assert!(rt; head.is_legal());
+    // an increment of 40, which leads past the row, and one of 39
+    let cases = [
+        ("H 1 001 1 1 E 00010 001 1 1", Err(Why::BadMacro)),
+        ("H 1 001 1 1 E 00011 001 1 1", Ok(())),
+    ];
+    let mut decisions = [GREY_DECISION; 40];
+    let mut levels = [MacroLevels::NONE; 40];
+    for (text, wanted) in cases {
+        let slices = slices_of(rt.alloc(), &[(1, text)])?;
+        assert!(rt; has_no_front(&slices));
+        assert_eq!(rt;
+            read_slices(&head, &slices, &mut decisions, &mut levels),
+            wanted
+        );
+    }
+    assert!(rt; decisions[1].skipped && decisions[38].skipped && !decisions[39].skipped);
     Ok(())
 }
