@@ -92,7 +92,7 @@ one_of begin (x ∷ xs) y ys are = one_of before.Unit xs y ys are.2
 
 pub ready_has_slices : (fed : Fed) (bytes : List ℕ) (let_go : List UnitLists) → cut_of fed ≡ cuts.Ready → StandsFor fed bytes let_go → IsUnitSlices (ready_unit fed).slices
 ready_has_slices fed bytes let_go is old =
-    let whole = stands_for_next fed bytes let_go is old [] (λ ends. refl) in
+    let whole = stands_for_next fed bytes let_go is old true [] (λ ends. (refl, refl)) in
     one_of before.Stream let_go (ready_unit fed) _ (subst (λ (us : Units). AreUnits before.Stream us.units) whole (units_have_shape _ (bytes ++ [])))
 
 -- so they are elements

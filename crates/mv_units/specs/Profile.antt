@@ -63,7 +63,8 @@ HasUnits bytes judged = HasUnitsIn stream_limit bytes judged
 -- unit k is the first that is refused, and why
 abbrev pub IsRefused : List ℕ → ℕ → Why → Type 0
 IsRefused bytes k why =
-    (judged : Judged) × HasUnits bytes judged × (length judged.units ≡ k) × (judged.refusal ≡ Some why)
+    (judged : Judged) × HasUnits bytes judged × (length judged.units ≡ k)
+    × (judged.refusal ≡ Some why)
 
 -- no unit is refused, whatever the length of the stream
 abbrev pub IsInProfile : List ℕ → Type 0

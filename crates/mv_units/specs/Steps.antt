@@ -77,7 +77,8 @@ fed_of store start stage room closed = record {
 }
 
 -- the store, how far it was looked at, and the answer agree
-pub record IsCut (store : List ℕ) (start : ℕ) (stage : Stage) (room : ℕ) (closed : Bool) (next : Next) : Type 0 where
+pub record IsCut (store : List ℕ) (start : ℕ) (stage : Stage) (room : ℕ) (closed : Bool)
+    (next : Next) : Type 0 where
   pub within : start ≤ length store
   pub stands : StageStands stage (take room (drop start store))
   pub answer : next ≡ next_of (fed_of store start stage room closed)

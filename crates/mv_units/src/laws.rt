@@ -1,5 +1,6 @@
 //! Laws of what the specs define, for crates above.
 ghost use Rattle.mv_units.specs.Profile.{EachStreamIsJudgedOnce};
+ghost use Rattle.mv_units.specs.Units.{OpenStreamsShowMore, UnitsWithinNeverFall};
 ghost use Rattle.mv_units.specs.Written.{StreamsAreCutWhole, UnitsHaveShape, WrittenUnitsAreCut};
 
 use mv_slices::slices_law;
@@ -17,6 +18,16 @@ pub fn shape_law()
 /// The bytes of units of that shape are cut into these units.
 pub fn written_law()
     ensures { WrittenUnitsAreCut }
+{}
+
+/// The units that the bytes of a stream show so far are the first ones of it, whatever comes.
+pub fn open_stream_law()
+    ensures { OpenStreamsShowMore }
+{}
+
+/// The more bytes of a stream, the more of its units are whole within them.
+pub fn units_within_law()
+    ensures { UnitsWithinNeverFall }
 {}
 
 /// Each stream is judged in one way.

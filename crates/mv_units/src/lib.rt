@@ -15,7 +15,9 @@ mod place;
 mod walk;
 
 pub use cutter::{Cut, Cutter};
-pub use laws::{cut_whole_law, judged_once_law, shape_law, written_law};
+pub use laws::{
+    cut_whole_law, judged_once_law, open_stream_law, shape_law, units_within_law, written_law,
+};
 pub use next::Before;
 pub use parts::PartLengths;
 pub use place::Place;
