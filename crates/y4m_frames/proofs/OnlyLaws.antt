@@ -1,13 +1,13 @@
 -- Only frame files are read without a fault.
-use Rattle.std.proofs.Common.{◌≡◌, ◌≢◌, ℕ, zero, suc, ◌+◌, ◌-◌, ◌<◌, ◌≤◌, Bool, true, false, cond, List, [], ◌∷◌, ◌++◌, length, take, drop, refl, sym, ap, ◌∙◌, subst, arith, Option, Some, None, Result, Ok, Err, nat_lt, nat_eq, lt-ltb, eq-eqb, append_assoc, zero-add, ⊎_elim, ne_eqb}
+use Rattle.std.proofs.Common.{◌≡◌, ◌≢◌, ℕ, zero, suc, ◌+◌, ◌-◌, ◌<◌, ◌≤◌, Bool, true, false, cond, List, [], ◌∷◌, ◌++◌, length, take, drop, refl, sym, ap, ◌∙◌, subst, arith, Option, Some, None, Result, Ok, Err, nat_lt, nat_eq, lt-ltb, eq-eqb, zero-add, ⊎_elim, ne_eqb}
 use Rattle.std.proofs.lemmas.Bool.{cases_lt, cases_eq}
-use Rattle.std.proofs.lemmas.List.{length-take, length-take-le, length-drop, take-append-drop, drop-drop, take_all, take-take, drop-take, length-append, nil_from_length}
+use Rattle.std.proofs.lemmas.List.{length-take, length-take-le, length-drop, take-append-drop, take-take, drop-take, nil_from_length}
 use Rattle.mv_terms.specs.declared.status.FrameFault.{FrameFault}
-use Rattle.mv_terms.specs.declared.status.FrameFault.TheVariants.{BadHeader, NoFrames, TooLong, BadFrame}
+use Rattle.mv_terms.specs.declared.status.FrameFault.TheVariants.{NoFrames}
 use Rattle.mv_terms.specs.declared.frame_header.FrameHeader.{FrameHeader}
 use Rattle.y4m_frames.specs.Lines.{line_within}
 use Rattle.y4m_frames.specs.Header.{header_limit, header_of, file_header, start_by}
-use Rattle.y4m_frames.specs.Frames.{File, Frames, Front, nothing, whole, short, other, high, IsFrame, AreFrames, IsHeaderLine, Holds, are_samples, file_by, file_limit, file_of, first_frames, frame_len, frames_by, frames_left, front, in_front, is_frame_line, judged, line_front, line_len, line_limit, next_frame, none_but, samples_front}
+use Rattle.y4m_frames.specs.Frames.{File, Frames, Front, nothing, whole, short, other, high, IsFrame, AreFrames, IsHeaderLine, Holds, are_samples, file_by, file_limit, file_of, frame_len, frames_by, frames_left, front, in_front, is_frame_line, judged, line_front, line_len, line_limit, next_frame}
 use Rattle.y4m_frames.specs.Reading.{OnlyFrameFilesAreRead}
 use Rattle.y4m_frames.proofs.FileLaws.{frames_step, judged_whole, some_frame}
 use Rattle.y4m_frames.proofs.LineLemmas.{line_is}

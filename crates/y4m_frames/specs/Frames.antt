@@ -39,11 +39,13 @@ pub data Front : Type 0 where
 
 abbrev pub samples_front : ℕ → ℕ → List ℕ → Front
 samples_front line len behind =
-    if nat_lt (length behind) len then short else if are_samples (take len behind) then whole line else high
+    if nat_lt (length behind) len then short else if are_samples (take len behind)
+    then whole line else high
 
 abbrev pub line_front : Option ℕ → ℕ → List ℕ → Front
 line_front None len s = if nat_lt (length s) line_limit then short else other
-line_front (Some text) len s = if is_frame_line (take text s) then samples_front (text + 1) len (drop (text + 1) s) else other
+line_front (Some text) len s =
+    if is_frame_line (take text s) then samples_front (text + 1) len (drop (text + 1) s) else other
 
 abbrev pub front : ℕ → List ℕ → Front
 front len s = if length s == 0 then nothing else line_front (line_within line_limit s) len s
@@ -84,7 +86,8 @@ frames_by (Ok (Some line)) len s others = in_front (take len (drop line s)) (oth
 unfoldable pub first_frames : ℕ → ℕ → ℕ → ℕ → List ℕ → Frames
 first_frames zero len n room s = none_but None
 first_frames (suc turns) len n room s =
-    frames_by (next_frame len n room s) len s (λ taken. first_frames turns len (n + 1) (room - taken) (drop taken s))
+    frames_by (next_frame len n room s) len s
+    (λ taken. first_frames turns len (n + 1) (room - taken) (drop taken s))
 
 -- all frames of what is left: each has at least one byte
 unfoldable pub frames_left : ℕ → ℕ → ℕ → List ℕ → Frames
@@ -104,7 +107,8 @@ pub record IsFrame (len : ℕ) (taken samples : List ℕ) : Type 0 where
 abbrev pub AreFrames : ℕ → List (List ℕ) → List ℕ → Type 0
 AreFrames len [] bytes = bytes ≡ []
 AreFrames len (samples ∷ frames) bytes =
-    (taken : List ℕ) × (rest : List ℕ) × IsFrame len taken samples × (bytes ≡ taken ++ rest) × AreFrames len frames rest
+    (taken : List ℕ) × (rest : List ℕ) × IsFrame len taken samples × (bytes ≡ taken ++ rest)
+    × AreFrames len frames rest
 
 -- A header line with its meaning.
 pub record IsHeaderLine (line : List ℕ) (h : FrameHeader) : Type 0 where
@@ -143,4 +147,5 @@ line_len (Some text) = text + 1
 
 -- any bytes: the fault of their header line, or the frames behind it up to their first fault or their end
 unfoldable pub file_of : List ℕ → Result File FrameFault
-file_of s = let n = line_len (line_within header_limit s) in file_by (file_header s) (take n s) (drop n s)
+file_of s =
+    let n = line_len (line_within header_limit s) in file_by (file_header s) (take n s) (drop n s)

@@ -24,7 +24,8 @@ words line = slice_split is_space line
 -- a number of 1 to 9 decimal digits
 unfoldable pub number : List ℕ → Option ℕ
 number digits =
-    if nat_le 1 (length digits) && nat_le (length digits) 9 && list_all is_digit digits then Some (digits_value 10 digits) else None
+    if nat_le 1 (length digits) && nat_le (length digits) 9 && list_all is_digit digits
+    then Some (digits_value 10 digits) else None
 
 -- the words of what is left of a line, and a measure of it
 abbrev pub words_left : Option (Bor (List ℕ)) → List (List ℕ)

@@ -46,12 +46,14 @@ HasNoHeader s Read = Unit {0}
 HasNoHeader s NoMemory = Unit {0}
 
 -- A frame was handed out: it stands in front of what was left.
-pub record Hands (old new : Reading) (rest_old rest_new : Option (List ℕ)) (samples : List ℕ) : Type 0 where
+pub record Hands (old new : Reading) (rest_old rest_new : Option (List ℕ))
+    (samples : List ℕ) : Type 0 where
   pub taken : List ℕ
   pub is : IsFrame (frame_len old.header) taken samples
   pub within : length taken ≤ old.room
   pub consumed : Consumes (left_of old rest_old) (left_of new rest_new) taken
-  pub stands : (past : List ℕ) (frames : List (List ℕ)) → StandsFor old past frames → StandsFor new (past ++ taken) (frames ++ samples ∷ [])
+  pub stands : (past : List ℕ) (frames : List (List ℕ)) → StandsFor old past frames
+      → StandsFor new (past ++ taken) (frames ++ samples ∷ [])
 
 -- what is left, where no frame is handed out: its end or its fault
 abbrev pub next_of : Reading → List ℕ → Result (Option ℕ) FrameFault
@@ -66,18 +68,30 @@ NextTells r s (Err NoMemory) = ⊥
 
 -- Whatever comes, the frames of the file are those that a reader stands for, and then those of what is left.
 abbrev pub StandsForItsFrames : Type 0
-StandsForItsFrames = (r : Reading) (past : List ℕ) (frames : List (List ℕ)) → StandsFor r past frames → (more : List ℕ) →
-    file_of (past ++ more) ≡ Ok (record { line = r.line; header = r.header; frames = behind_frames frames (frames_left (frame_len r.header) r.count r.room more) })
+StandsForItsFrames =
+    (r : Reading) (past : List ℕ) (frames : List (List ℕ)) → StandsFor r past frames
+    → (more : List ℕ) →
+    file_of (past ++ more)
+    ≡ Ok
+    (record {
+      line = r.line;
+      header = r.header;
+      frames = behind_frames frames (frames_left (frame_len r.header) r.count r.room more);
+    })
 
 -- A frame file is read as what it holds.
 abbrev pub FrameFilesAreRead : Type 0
-FrameFilesAreRead = (bytes line : List ℕ) (h : FrameHeader) (frames : List (List ℕ)) → Holds bytes line h frames →
-    file_of bytes ≡ Ok (record { line = line; header = h; frames = record { frames = frames; fault = None } })
+FrameFilesAreRead =
+    (bytes line : List ℕ) (h : FrameHeader) (frames : List (List ℕ)) → Holds bytes line h frames →
+    file_of bytes
+    ≡ Ok (record { line = line; header = h; frames = record { frames = frames; fault = None } })
 
 -- Only a frame file is read without a fault.
 abbrev pub OnlyFrameFilesAreRead : Type 0
 OnlyFrameFilesAreRead = (bytes line : List ℕ) (h : FrameHeader) (frames : List (List ℕ)) →
-    file_of bytes ≡ Ok (record { line = line; header = h; frames = record { frames = frames; fault = None } }) → Holds bytes line h frames
+    file_of bytes
+    ≡ Ok (record { line = line; header = h; frames = record { frames = frames; fault = None } })
+    → Holds bytes line h frames
 
 -- The header line that is written is read as its header.
 abbrev pub WrittenHeadersAreRead : Type 0

@@ -39,7 +39,10 @@ pub record TakesLine (line room : ℕ) (old new : Option (List ℕ)) : Type 0 wh
 
 -- what it says of the bytes that were left
 abbrev pub LineTells : ℕ → ℕ → List ℕ → Result (Option ℕ) Halt → Type 0
-LineTells n room s (Ok (Some line)) = (len : ℕ) → next_frame len n room s ≡ judged (nat_lt room (length s)) n (samples_front line len (drop line (take room s)))
+LineTells n room s (Ok (Some line)) =
+    (len : ℕ)
+    → next_frame len n room s
+    ≡ judged (nat_lt room (length s)) n (samples_front line len (drop line (take room s)))
 LineTells n room s (Ok None) = (len : ℕ) → next_frame len n room s ≡ Ok None
 LineTells n room s (Err (Fault fault)) = (len : ℕ) → next_frame len n room s ≡ Err fault
 LineTells n room s (Err Read) = Unit {0}
@@ -53,12 +56,15 @@ pub record TakesSamples (left : ℕ) (old new : Option (List ℕ)) (samples : Li
 
 abbrev pub SamplesTell : ℕ → ℕ → ℕ → List ℕ → Result (Unit {0}) Halt → Type 0
 SamplesTell len n left s (Ok _) = Unit {0}
-SamplesTell len n left s (Err (Fault fault)) = (line : ℕ) → judged (nat_lt left (length s)) n (samples_front line len (take left s)) ≡ Err fault
+SamplesTell len n left s (Err (Fault fault)) =
+    (line : ℕ)
+    → judged (nat_lt left (length s)) n (samples_front line len (take left s)) ≡ Err fault
 SamplesTell len n left s (Err Read) = Unit {0}
 SamplesTell len n left s (Err NoMemory) = ⊥
 
 -- a frame was taken
-pub record TakesFrame (taken len room : ℕ) (old new : Option (List ℕ)) (samples : List ℕ) : Type 0 where
+pub record TakesFrame (taken len room : ℕ) (old new : Option (List ℕ))
+    (samples : List ℕ) : Type 0 where
   pub bytes : List ℕ
   pub is : IsFrame len bytes samples
   pub count : taken ≡ length bytes

@@ -73,15 +73,15 @@ impl Ahead {
     /// Reads more; nothing where none is left.
     pub(crate) fn refill<S: Shelf>(&mut self, shelf: &mut S) -> Result<usize, Failed>
         requires { length self.old < 65536 }
-        ensures same { Consumes (prepend_known self.old (S.rest shelf.old)) (prepend_known self.new (S.rest
-            shelf.new)) [] }
+        ensures same { Consumes (prepend_known self.old (S.rest shelf.old))
+            (prepend_known self.new (S.rest shelf.new)) [] }
         ensures more { IfOk result (λ n. length self.new ≡ length self.old + n) }
         ensures end { IfOk result (λ n. n ≡ 0 → IsAtEnd (S.rest shelf.new)) }
         ensures none { IfOk result (λ n. n ≡ 0 → self.new ≡ self.old) }
         ensures kept { OnErr result (self.new ≡ self.old) }
         ensures most { length self.new ≤ 65536 }
-        ensures failed { OnErr result (RoseForSelected (S.selected shelf.old) (S.read_faults shelf.old)
-            (S.read_faults shelf.new)) }
+        ensures failed { OnErr result (RoseForSelected (S.selected shelf.old)
+            (S.read_faults shelf.old) (S.read_faults shelf.new)) }
         ensures chosen { S.selected shelf.new ≡ S.selected shelf.old }
         ensures keeps { KeepsShelf S.named S.open_faults S.read_faults shelf.old shelf.new }
     {
@@ -95,8 +95,8 @@ impl Ahead {
 }
 
 impl Ahead {
-    /// Reads until a line feed is among the first bytes, as many as `most`, or these are there, or no more is left. Says
-    /// how many bytes stand before the line feed.
+    /// Reads until a line feed is among the first bytes, as many as `most`, or these are there, or
+    /// no more is left. Says how many bytes stand before the line feed.
     #[tactic(auto, using(crate::proofs::ShelfLemmas::keeps_trans, crate::proofs::ShelfLemmas::keeps_refl))]
     pub(crate) fn line<S: Shelf>(
         &mut self,
@@ -104,15 +104,16 @@ impl Ahead {
         most: usize,
     ) -> Result<Option<usize>, Failed>
         requires { most ≤ 65536 }
-        ensures same { Consumes (prepend_known self.old (S.rest shelf.old)) (prepend_known self.new (S.rest
-            shelf.new)) [] }
+        ensures same { Consumes (prepend_known self.old (S.rest shelf.old))
+            (prepend_known self.new (S.rest shelf.new)) [] }
         ensures found { IfOk result (λ found. line_within most self.new ≡ found) }
-        ensures within { IfOk result (λ found. IfSome found (λ n. (n < most) × (n < length self.new))) }
+        ensures within { IfOk result (λ found. IfSome found
+            (λ n. (n < most) × (n < length self.new))) }
         ensures all { IfOk result (λ found. IfNone found ((most ≤ length self.new) ⊎ IsAtEnd (S.rest
             shelf.new))) }
         ensures most { length self.new ≤ 65536 }
-        ensures failed { OnErr result (RoseForSelected (S.selected shelf.old) (S.read_faults shelf.old)
-            (S.read_faults shelf.new)) }
+        ensures failed { OnErr result (RoseForSelected (S.selected shelf.old)
+            (S.read_faults shelf.old) (S.read_faults shelf.new)) }
         ensures chosen { S.selected shelf.new ≡ S.selected shelf.old }
         ensures keeps { KeepsShelf S.named S.open_faults S.read_faults shelf.old shelf.new }
     {
@@ -121,10 +122,7 @@ impl Ahead {
             if found.is_some() || most <= self.bytes().len() {
                 return Ok(found);
             }
-            let count = match self.refill(shelf) {
-                Ok(count) => count,
-                Err(failed) => return Err(failed),
-            };
+            let count = self.refill(shelf)?;
             if count == 0 {
                 return Ok(None);
             }
@@ -135,13 +133,13 @@ impl Ahead {
     #[tactic(auto, using(crate::proofs::ShelfLemmas::keeps_refl))]
     pub(crate) fn fill<S: Shelf>(&mut self, shelf: &mut S, to: &mut [u8]) -> Result<usize, Failed>
         ensures within { IfOk result (λ n. n ≤ length to.old) }
-        ensures read { IfOk result (λ n. Consumes (prepend_known self.old (S.rest shelf.old)) (prepend_known
-            self.new (S.rest shelf.new)) (take n to.new)) }
+        ensures read { IfOk result (λ n. Consumes (prepend_known self.old (S.rest shelf.old))
+            (prepend_known self.new (S.rest shelf.new)) (take n to.new)) }
         ensures end { IfOk result (λ n. n < length to.old → IsAtEnd (prepend_known self.new (S.rest
             shelf.new))) }
-        ensures most { length self.new ≤ 65536 }
-        ensures failed { OnErr result (RoseForSelected (S.selected shelf.old) (S.read_faults shelf.old)
-            (S.read_faults shelf.new)) }
+        ensures less { length self.new ≤ length self.old }
+        ensures failed { OnErr result (RoseForSelected (S.selected shelf.old)
+            (S.read_faults shelf.old) (S.read_faults shelf.new)) }
         ensures chosen { S.selected shelf.new ≡ S.selected shelf.old }
         ensures keeps { KeepsShelf S.named S.open_faults S.read_faults shelf.old shelf.new }
     {
@@ -149,10 +147,7 @@ impl Ahead {
         if given == to.len() {
             return Ok(given);
         }
-        match read_all(shelf, to, given) {
-            Ok(count) => Ok(count),
-            Err(failed) => Err(failed),
-        }
+        read_all(shelf, to, given)
     }
 }
 
@@ -181,8 +176,8 @@ fn read_behind<S: Shelf>(shelf: &mut S, store: &mut [u8], held: usize) -> Result
     requires { held < length store.old }
     ensures front { take held store.new ≡ take held store.old }
     ensures within { IfOk result (λ n. held + n ≤ length store.old) }
-    ensures read { IfOk result (λ n. Consumes (S.rest shelf.old) (S.rest shelf.new) (take n (drop held
-        store.new))) }
+    ensures read { IfOk result (λ n. Consumes (S.rest shelf.old) (S.rest shelf.new)
+        (take n (drop held store.new))) }
     ensures end { IfOk result (λ n. n ≡ 0 → IsAtEnd (S.rest shelf.new)) }
     ensures kept { OnErr result (Keeps (S.rest shelf.old) (S.rest shelf.new)) }
     ensures failed { OnErr result (RoseForSelected (S.selected shelf.old) (S.read_faults shelf.old)
@@ -194,14 +189,15 @@ fn read_behind<S: Shelf>(shelf: &mut S, store: &mut [u8], held: usize) -> Result
     shelf.read(&mut store[held..end])
 }
 
-/// Reads into a buffer, behind its first bytes, until it is full or no more is left. Says how many bytes it has then.
+/// Reads into a buffer, behind its first bytes, until it is full or no more is left. Says how many
+/// bytes it has then.
 #[tactic(auto, using(crate::proofs::ShelfLemmas::keeps_refl))]
 pub fn read_all<S: Shelf>(shelf: &mut S, to: &mut [u8], from: usize) -> Result<usize, Failed>
     requires { from ≤ length to.old }
     ensures front { OnOk result (take from to.new ≡ take from to.old) }
     ensures within { IfOk result (λ n. (from ≤ n) × (n ≤ length to.old)) }
-    ensures read { IfOk result (λ n. Consumes (S.rest shelf.old) (S.rest shelf.new) (slice_range to.new from
-        n)) }
+    ensures read { IfOk result (λ n. Consumes (S.rest shelf.old) (S.rest shelf.new)
+        (slice_range to.new from n)) }
     ensures end { IfOk result (λ n. n < length to.old → IsAtEnd (S.rest shelf.new)) }
     ensures failed { OnErr result (RoseForSelected (S.selected shelf.old) (S.read_faults shelf.old)
         (S.read_faults shelf.new)) }
@@ -210,11 +206,11 @@ pub fn read_all<S: Shelf>(shelf: &mut S, to: &mut [u8], from: usize) -> Result<u
 {
     let mut filled = from;
     'reads: while filled < to.len() {
-        match read_behind(shelf, to, filled) {
-            Ok(0) => return Ok(filled),
-            Ok(count) => filled += count,
-            Err(failed) => return Err(failed),
+        let count = read_behind(shelf, to, filled)?;
+        if count == 0 {
+            return Ok(filled);
         }
+        filled += count;
     }
     Ok(filled)
 }

@@ -12,8 +12,8 @@ use crate::halt::Halt;
 use mv_ends::Shelf;
 use mv_terms::FrameFault;
 
-/// Takes a frame, where so many bytes may belong to the file, and says how many bytes it has, with its line; None at the
-/// end.
+/// Takes a frame, where so many bytes may belong to the file, and says how many bytes it has, with
+/// its line; None at the end.
 #[tactic(auto, using(crate::proofs::ShelfLemmas::keeps_trans))]
 pub(crate) fn take_frame<S: Shelf>(
     ahead: &mut Ahead,
@@ -22,29 +22,28 @@ pub(crate) fn take_frame<S: Shelf>(
     room: u64,
     samples: &mut [u8],
 ) -> Result<Option<u64>, Halt>
-    ensures frame { IfOk result (λ found. IfSome found (λ taken. TakesFrame taken (length samples.old) room
+    ensures frame { IfOk result (λ found. IfSome found
+        (λ taken. TakesFrame taken (length samples.old) room
         (prepend_known ahead.old (S.rest shelf.old)) (prepend_known ahead.new (S.rest shelf.new))
         samples.new)) }
-    ensures ends { IfOk result (λ found. IfNone found (Consumes (prepend_known ahead.old (S.rest shelf.old))
+    ensures ends { IfOk result (λ found. IfNone found
+        (Consumes (prepend_known ahead.old (S.rest shelf.old))
         (prepend_known ahead.new (S.rest shelf.new)) [])) }
     ensures told { ForSome (prepend_known ahead.old (S.rest shelf.old)) (λ s. FrameTells (length
         samples.old) count room s result) }
     ensures most { length ahead.new ≤ 65536 }
+    ensures less { IfOk result (λ found. IfSome found (λ _. length ahead.new < 65536)) }
     ensures memory { result ≢ Err Halt.NoMemory }
-    ensures failed { IsErrOf result Halt.Read → RoseForSelected (S.selected shelf.old) (S.read_faults
-        shelf.old) (S.read_faults shelf.new) }
+    ensures failed { IsErrOf result Halt.Read → RoseForSelected (S.selected shelf.old)
+        (S.read_faults shelf.old) (S.read_faults shelf.new) }
     ensures chosen { S.selected shelf.new ≡ S.selected shelf.old }
     ensures keeps { KeepsShelf S.named S.open_faults S.read_faults shelf.old shelf.new }
 {
-    let line = match take_line(ahead, shelf, count, room) {
-        Ok(Some(line)) => line,
-        Ok(None) => return Ok(None),
-        Err(halt) => return Err(halt),
+    let Some(line) = take_line(ahead, shelf, count, room)? else {
+        return Ok(None);
     };
-    match take_samples(ahead, shelf, count, room - line, samples) {
-        Ok(()) => Ok(Some(line + samples.len() as u64)),
-        Err(halt) => Err(halt),
-    }
+    take_samples(ahead, shelf, count, room - line, samples)?;
+    Ok(Some(line + samples.len() as u64))
 }
 
 // Whether a line, without its line feed, is that of a frame.
@@ -54,15 +53,22 @@ fn is_frame_line(text: &[u8]) -> bool
     text == b"FRAME".as_slice() || &text[..text.len().min(6)] == b"FRAME ".as_slice()
 }
 
-// Whether no sample is above 1023.
+// Whether no sample is above 1023. Whole samples, and not their high bytes alone, are what is
+// loaded side by side.
 fn are_samples(bytes: &[u8]) -> bool
     ensures { result ≡ are_samples bytes.now }
 {
     let mut greatest = 0;
     for i in 0..bytes.len() / 2 {
-        greatest = bytes[2 * i + 1].max(greatest);
+        greatest = sample(bytes[2 * i], bytes[2 * i + 1]).max(greatest);
     }
-    greatest <= 3
+    greatest <= 1023
+}
+
+fn sample(low: u8, high: u8) -> u16
+    ensures { result ≡ low + 256 * high }
+{
+    u16::from(low) + 256 * u16::from(high)
 }
 
 const LINE_LIMIT: usize = 256;
@@ -74,22 +80,23 @@ fn take_line<S: Shelf>(
     count: u64,
     room: u64,
 ) -> Result<Option<u64>, Halt>
-    ensures line { IfOk result (λ found. IfSome found (λ line. TakesLine line room (prepend_known ahead.old
-        (S.rest shelf.old)) (prepend_known ahead.new (S.rest shelf.new)))) }
-    ensures ends { IfOk result (λ found. IfNone found (Consumes (prepend_known ahead.old (S.rest shelf.old))
+    ensures line { IfOk result (λ found. IfSome found
+        (λ line. TakesLine line room (prepend_known ahead.old (S.rest shelf.old))
+        (prepend_known ahead.new (S.rest shelf.new)))) }
+    ensures ends { IfOk result (λ found. IfNone found
+        (Consumes (prepend_known ahead.old (S.rest shelf.old))
         (prepend_known ahead.new (S.rest shelf.new)) [])) }
-    ensures told { ForSome (prepend_known ahead.old (S.rest shelf.old)) (λ s. LineTells count room s result) }
+    ensures told { ForSome (prepend_known ahead.old (S.rest shelf.old))
+        (λ s. LineTells count room s result) }
     ensures most { length ahead.new ≤ 65536 }
+    ensures less { IfOk result (λ found. IfSome found (λ _. length ahead.new < 65536)) }
     ensures memory { result ≢ Err Halt.NoMemory }
-    ensures failed { IsErrOf result Halt.Read → RoseForSelected (S.selected shelf.old) (S.read_faults
-        shelf.old) (S.read_faults shelf.new) }
+    ensures failed { IsErrOf result Halt.Read → RoseForSelected (S.selected shelf.old)
+        (S.read_faults shelf.old) (S.read_faults shelf.new) }
     ensures chosen { S.selected shelf.new ≡ S.selected shelf.old }
     ensures keeps { KeepsShelf S.named S.open_faults S.read_faults shelf.old shelf.new }
 {
-    let found = match ahead.line(shelf, LINE_LIMIT) {
-        Ok(found) => found,
-        Err(_) => return Err(Halt::Read),
-    };
+    let found = ahead.line(shelf, LINE_LIMIT)?;
     let held = ahead.bytes();
     if held.is_empty() {
         if count == 0 {
@@ -97,27 +104,24 @@ fn take_line<S: Shelf>(
         }
         return Ok(None);
     }
-    match found {
-        None => {
-            if room < LINE_LIMIT as u64 && room < held.len() as u64 {
-                return Err(Halt::Fault(FrameFault::TooLong(count)));
-            }
-            Err(Halt::Fault(FrameFault::BadFrame(count)))
+    let Some(text) = found else {
+        if room < LINE_LIMIT as u64 && room < held.len() as u64 {
+            return Err(Halt::Fault(FrameFault::TooLong(count)));
         }
-        Some(text) => {
-            if room <= text as u64 {
-                return Err(Halt::Fault(FrameFault::TooLong(count)));
-            }
-            if !is_frame_line(&held[..text]) {
-                return Err(Halt::Fault(FrameFault::BadFrame(count)));
-            }
-            ahead.skip(text + 1);
-            Ok(Some(text as u64 + 1))
-        }
+        return Err(Halt::Fault(FrameFault::BadFrame(count)));
+    };
+    if room <= text as u64 {
+        return Err(Halt::Fault(FrameFault::TooLong(count)));
     }
+    if !is_frame_line(&held[..text]) {
+        return Err(Halt::Fault(FrameFault::BadFrame(count)));
+    }
+    ahead.skip(text + 1);
+    Ok(Some(text as u64 + 1))
 }
 
-// How many bytes of samples to ask for: one more than may belong to the file shows that more follow.
+// How many bytes of samples to ask for: one more than may belong to the file shows that more
+// follow.
 fn wanted(len: usize, left: u64) -> usize
     ensures { result ≡ min len (left + 1) }
 {
@@ -140,18 +144,15 @@ fn take_samples<S: Shelf>(
         (prepend_known ahead.new (S.rest shelf.new)) samples.new) }
     ensures told { ForSome (prepend_known ahead.old (S.rest shelf.old)) (λ s. SamplesTell (length
         samples.old) count left s result) }
-    ensures most { length ahead.new ≤ 65536 }
+    ensures less { length ahead.new ≤ length ahead.old }
     ensures memory { result ≢ Err Halt.NoMemory }
-    ensures failed { IsErrOf result Halt.Read → RoseForSelected (S.selected shelf.old) (S.read_faults
-        shelf.old) (S.read_faults shelf.new) }
+    ensures failed { IsErrOf result Halt.Read → RoseForSelected (S.selected shelf.old)
+        (S.read_faults shelf.old) (S.read_faults shelf.new) }
     ensures chosen { S.selected shelf.new ≡ S.selected shelf.old }
     ensures keeps { KeepsShelf S.named S.open_faults S.read_faults shelf.old shelf.new }
 {
     let want = wanted(samples.len(), left);
-    let got = match ahead.fill(shelf, &mut samples[..want]) {
-        Ok(got) => got,
-        Err(_) => return Err(Halt::Read),
-    };
+    let got = ahead.fill(shelf, &mut samples[..want])?;
     if got < want {
         return Err(Halt::Fault(FrameFault::BadFrame(count)));
     }

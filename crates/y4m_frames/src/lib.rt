@@ -1,8 +1,9 @@
 //! Frame files: Y4M of 4:2:0 frames with 10 bits a sample (`C420p10`).
 //!
-//! Two promises. What is written is the header line and the frames of `specs/FrameFile.antt`, or, where the sink
-//! fails, some front of them. What is read are the header and the frames of `specs/Frames.antt`, or, where the bytes
-//! are no frame file, the frames before its first fault, and this fault (`specs/Reading.antt`).
+//! Two promises. What is written is the header line and the frames of `specs/FrameFile.antt`, or,
+//! where the sink fails, some front of them. What is read are the header and the frames of
+//! `specs/Frames.antt`, or, where the bytes are no frame file, the frames before its first fault,
+//! and this fault (`specs/Reading.antt`).
 #![tactic(auto)]
 
 mod ahead;

@@ -36,7 +36,14 @@ pub struct FrameReader {
 impl Model for FrameReader {
     ghost Value = { Reading };
 
-    ghost view = { λ r. record { header = r.header; line = r.line.items; count = r.count; room = r.room; ahead = r.ahead; failed = r.failed } };
+    ghost view = { λ r. record {
+      header = r.header;
+      line = r.line.items;
+      count = r.count;
+      room = r.room;
+      ahead = r.ahead;
+      failed = r.failed;
+    } };
 
     ghost invariant = { λ r. (r.count + r.room ≤ 2 ^ 44) × (r.failed ≢ Some halts.NoMemory) };
 }
@@ -46,34 +53,24 @@ impl FrameReader {
     pub fn start<S: Shelf>(alloc: Global, shelf: &mut S) -> Result<FrameReader, Halt>
         ensures starts { IfOk result (λ r. Starts (S.rest shelf.old) (S.rest shelf.new) r) }
 
+        // Fewer than 65,536 bytes are read ahead of what stands behind the header line.
+        ensures less { IfOk result (λ r. length r.ahead < 65536) }
+
         // Where the shelf tells its bytes, a fault is that of their header line.
-        ensures tells { ForSome (S.rest shelf.old) (λ s. IfErr result (λ halt. HasNoHeader s halt)) }
-        ensures read { IsErrOf result Halt.Read → RoseForSelected (S.selected shelf.old) (S.read_faults
-            shelf.old) (S.read_faults shelf.new) }
+        ensures tells { ForSome (S.rest shelf.old)
+            (λ s. IfErr result (λ halt. HasNoHeader s halt)) }
+        ensures read { IsErrOf result Halt.Read → RoseForSelected (S.selected shelf.old)
+            (S.read_faults shelf.old) (S.read_faults shelf.new) }
         ensures chosen { S.selected shelf.new ≡ S.selected shelf.old }
         ensures keeps { KeepsShelf S.named S.open_faults S.read_faults shelf.old shelf.new }
     {
-        let mut ahead = match Ahead::start(alloc) {
-            Ok(ahead) => ahead,
-            Err(_) => return Err(Halt::NoMemory),
-        };
-        let found = match ahead.line(shelf, HEADER_LIMIT) {
-            Ok(found) => found,
-            Err(_) => return Err(Halt::Read),
-        };
-        let text = match found {
-            None => return Err(Halt::Fault(FrameFault::BadHeader)),
-            Some(text) => text,
+        let mut ahead = Ahead::start(alloc)?;
+        let Some(text) = ahead.line(shelf, HEADER_LIMIT)? else {
+            return Err(Halt::Fault(FrameFault::BadHeader));
         };
         let held = ahead.bytes();
-        let header = match header_of(&held[..text]) {
-            Ok(header) => header,
-            Err(fault) => return Err(Halt::Fault(fault)),
-        };
-        let line = match Vec::from_slice(alloc, &held[..text + 1]) {
-            Ok(line) => line,
-            Err(_) => return Err(Halt::NoMemory),
-        };
+        let header = header_of(&held[..text])?;
+        let line = Vec::from_slice(alloc, &held[..text + 1])?;
         ahead.skip(text + 1);
         Ok(FrameReader {
             header,
@@ -104,25 +101,29 @@ impl FrameReader {
     pub fn next<S: Shelf>(&mut self, shelf: &mut S, frame: &mut [u8]) -> Result<bool, Halt>
         requires { length frame.old ≡ frame_len self.old.header }
         // A frame that is handed out stands in front of what was left.
-        ensures hands { IfOk result (λ some. some ≡ true → Hands self.old self.new (S.rest shelf.old) (S.rest
-            shelf.new) frame.new) }
+        ensures hands { IfOk result (λ some. some ≡ true → Hands self.old self.new
+            (S.rest shelf.old) (S.rest shelf.new) frame.new) }
 
         // At the end nothing is taken.
-        ensures ends { IfOk result (λ some. some ≡ false → Consumes (left_of self.old (S.rest shelf.old))
-            (left_of self.new (S.rest shelf.new)) []) }
+        ensures ends { IfOk result (λ some. some ≡ false → Consumes
+            (left_of self.old (S.rest shelf.old)) (left_of self.new (S.rest shelf.new)) []) }
 
-        // Where the shelf tells its bytes: at the end, and only there, it answers false, and a fault is the first one.
+        // Where the shelf tells its bytes: at the end, and only there, it answers false, and a
+        // fault is the first one.
         ensures tells { self.old.failed ≡ None → ForSome (left_of self.old (S.rest shelf.old)) (λ s.
             NextTells self.old s result) }
-        ensures read { IsErrOf result Halt.Read → self.old.failed ≡ None → RoseForSelected (S.selected
-            shelf.old) (S.read_faults shelf.old) (S.read_faults shelf.new) }
+        ensures read { IsErrOf result Halt.Read → self.old.failed ≡ None → RoseForSelected
+            (S.selected shelf.old) (S.read_faults shelf.old) (S.read_faults shelf.new) }
+
+        // At most 65,536 bytes are read ahead, and fewer behind a frame that was handed out.
         ensures most { self.old.failed ≡ None → length self.new.ahead ≤ 65536 }
+        ensures less { IfOk result (λ some. some ≡ true → length self.new.ahead < 65536) }
         ensures memory { result ≢ Err Halt.NoMemory }
 
         // After an error it answers the same again.
         ensures stays { IfErr result (λ halt. self.new.failed ≡ Some halt) }
-        ensures again { (halt : Halt) → self.old.failed ≡ Some halt → (result ≡ Err halt) × (self.new ≡
-            self.old) × (S.rest shelf.new ≡ S.rest shelf.old) }
+        ensures again { (halt : Halt) → self.old.failed ≡ Some halt → (result ≡ Err halt)
+            × (self.new ≡ self.old) × (S.rest shelf.new ≡ S.rest shelf.old) }
         ensures runs { OnOk result (self.new.failed ≡ None) }
         ensures header { (self.new.header ≡ self.old.header) × (self.new.line ≡ self.old.line) }
         ensures chosen { S.selected shelf.new ≡ S.selected shelf.old }
@@ -146,7 +147,8 @@ impl FrameReader {
     }
 }
 
-/// Whatever comes, the frames of the file are those that a reader stands for, and then those of what is left.
+/// Whatever comes, the frames of the file are those that a reader stands for, and then those of
+/// what is left.
 pub fn stands_law()
     ensures { StandsForItsFrames }
 {}

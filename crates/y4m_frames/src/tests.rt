@@ -1,4 +1,5 @@
-//! Frame files as other tools write them, files that are none, and shelves that give little at a time or fail.
+//! Frame files as other tools write them, files that are none, and shelves that give little at a
+//! time or fail.
 use crate::{FrameReader, Halt};
 use mv_ends::{CleanShelf, MemShelf, Shelf};
 use mv_terms::{FrameFault, FrameHeader};
@@ -119,8 +120,8 @@ fn next(reader: &mut FrameReader, shelf: &mut MemShelf, frame: &mut [u8]) -> Res
     reader.next(shelf, frame)
 }
 
-// A file gives so many frames, in the order of their numbers, and then twice this answer, however many bytes a read
-// moves.
+// A file gives so many frames, in the order of their numbers, and then twice this answer, however
+// many bytes a read moves.
 fn gives(
     rt: &impl Abort,
     alloc: Global,

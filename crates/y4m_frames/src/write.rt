@@ -7,8 +7,8 @@ use itoa::Buffer;
 use mv_ends::{Failed, Sink, send_all};
 use mv_terms::FrameHeader;
 
-/// Writes the header line of a frame file. It fails only where the sink does, and then a proper front of the line
-/// was written.
+/// Writes the header line of a frame file. It fails only where the sink does, and then a proper
+/// front of the line was written.
 pub fn write_header<O: Sink>(header: &FrameHeader, out: &mut O) -> Result<(), Failed>
     ensures { Sends O.written O.faults O.room out.old out.new (header_line header.now) result }
 {
@@ -32,8 +32,9 @@ pub fn write_header<O: Sink>(header: &FrameHeader, out: &mut O) -> Result<(), Fa
     )
 }
 
-/// Writes a frame, whose samples are 16-bit numbers with the low byte first: Y, Cb and Cr, each in raster order. It
-/// fails only where the sink does, and then a proper front of the frame was written.
+/// Writes a frame, whose samples are 16-bit numbers with the low byte first: Y, Cb and Cr, each in
+/// raster order. It fails only where the sink does, and then a proper front of the frame was
+/// written.
 pub fn write_frame<O: Sink>(samples: &[u8], out: &mut O) -> Result<(), Failed>
     ensures { Sends O.written O.faults O.room out.old out.new (frame samples.now) result }
 {

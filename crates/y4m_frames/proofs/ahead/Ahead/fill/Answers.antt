@@ -1,15 +1,19 @@
-use Rattle.std.proofs.Common.{◌≤◌, ◌∙◌, sym, subst, arith, List, ℕ, take, length}
+use Rattle.std.proofs.Common.{◌≡◌, ◌≤◌, ◌∙◌, sym, subst, arith, List, ℕ, take, drop, length, slice_range, Option, Result, Ok, Err, IfOk, OnOk}
 use Rattle.std.specs.Io.KnownBytes.{Consumes, prepend_known}
 use Rattle.y4m_frames.proofs.AheadLemmas.{front_and_more}
 use Rattle.y4m_frames.proofs.ahead.Ahead.fill.Goals as goal
 
-pub returns-in-Ok-clause-read : goal.returns-in-Ok-clause-read
-returns-in-Ok-clause-read g c =
-    let e = c.in-Ok.ensures in
-    let a = c.args.self.now in
-    let to = c.read_all.new.to in
-    let given = c.give-given.result in
-    let all : length a ≤ given = omega (arith, c.give-given.ensures.count, c.if-given-to.false) in
-    subst (λ (d : List ℕ). Consumes (prepend_known a (g.S.Shelf.rest c.args.shelf.now)) (prepend_known d (g.S.Shelf.rest c.read_all.new.shelf)) (take c.in-Ok.count to))
-    (sym c.give-given.ensures.left)
-    (front_and_more a to (g.S.Shelf.rest c.args.shelf.now) (g.S.Shelf.rest c.read_all.new.shelf) given c.in-Ok.count all e.within.0 (e.front ∙ c.give-given.ensures.given) e.read)
+-- all that was ahead, and what was read behind it
+all_and_more : {E : Type 0} (a left to first : List ℕ) (old new : Option (List ℕ)) (given : ℕ) (r : Result ℕ E) → length a ≤ given → left ≡ drop given a → take given first ≡ take given a → OnOk r (take given to ≡ take given first) →
+    IfOk r (λ n. (given ≤ n) × (n ≤ length first)) → IfOk r (λ n. Consumes old new (slice_range to given n)) → IfOk r (λ n. Consumes (prepend_known a old) (prepend_known left new) (take n to))
+all_and_more a left to first old new given (Ok n) all left_is front same within read =
+    subst (λ (d : List ℕ). Consumes (prepend_known a old) (prepend_known d new) (take n to)) (sym left_is) (front_and_more a to old new given n all within.0 (same ∙ front) read)
+all_and_more a left to first old new given (Err e) all left_is front same within read = tt
+
+pub returns-clause-read : goal.returns-clause-read
+returns-clause-read g c =
+    let e = c.read_all.ensures in
+    let given = c.give-given.ensures in
+    let all : length c.args.self.now ≤ c.give-given.result = omega (arith, given.count, c.if-given-to.false) in
+    all_and_more c.args.self.now c.give-given.new.self c.read_all.new.to c.give-given.new.to (g.S.Shelf.rest c.args.shelf.now) (g.S.Shelf.rest c.read_all.new.shelf) c.give-given.result c.read_all.result
+    all given.left given.given e.front e.within e.read
