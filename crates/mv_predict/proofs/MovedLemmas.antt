@@ -1,6 +1,6 @@
 -- Places moved by a vector.
-use Rattle.std.proofs.Common.{◌≡◌, ◌∙◌, ◌<◌, ℕ, ◌+◌, ◌*◌, ◌/◌, ◌%◌, Bool, true, false, Option, None, Some, ℤ, pos, negsuc, ◌+ℤ◌, ◌≤ℤ◌, zero, suc, arith, ap, refl, sym, length}
-use Rattle.std.specs.Prelude.{not, ◌==◌, slice_index}
+use Rattle.std.proofs.Common.{◌≡◌, ◌∙◌, ◌<◌, ℕ, ◌+◌, ◌*◌, ◌/◌, ◌%◌, Bool, true, false, true≢false, Option, None, Some, ℤ, pos, negsuc, ◌+ℤ◌, ◌≤ℤ◌, zero, suc, arith, ap, refl, sym, length}
+use Rattle.std.specs.Prelude.{not, ◌==◌, ◌&&◌, slice_index}
 use native.Mathlib.Numerals.{unary_clauses}
 use Rattle.std.proofs.lemmas.Int.{ints}
 use Rattle.mv_planes.specs.declared.picture.Plane.{Plane}
@@ -9,6 +9,8 @@ use Rattle.mv_planes.specs.Planes.{Planes, IsWhole, width_of, height_of, place_o
 use Rattle.mv_planes.proofs.Places.{place_in}
 use Rattle.mv_vectors.specs.Inside.{whole_samples}
 use Rattle.mv_terms.specs.declared.macroblock.Decision.{Decision}
+use Rattle.mv_terms.specs.declared.macroblock.Vector.{Vector}
+use Rattle.mv_predict.specs.declared.kernel.Lines.{Lines}
 use Rattle.mv_predict.specs.declared.source.Source.{Source}
 use Rattle.mv_predict.specs.Prediction.{moved, natural, line_in, vector_in, half_way, sample_in, predicted_from, has_direction, source_by, source_of}
 use Rattle.mv_predict.specs.Steps.{IsReadable, value_at, quarter, lines_at, half_left, distance, AreInside, beside, beside_column, apart_in, rows_apart}
@@ -124,3 +126,31 @@ source_by_more true true d s y n step =
 pub source_more : (d : Decision) (s y n step : ℕ) → further (source_of d s y) (n * rows_apart (source_of d s y).field step) ≡ source_of d s (y + 2 * (n * step))
 unfolding source_of
 source_more d s y n step = sym (source_by_more (has_direction d s) d.field_motion d s y n step)
+
+-- lines that begin so many samples further on
+abbrev behind : Lines → ℕ → Lines
+behind s n = record s { at = s.at + n }
+
+begun : (a b apart stride right down : ℕ) → a ≡ b
+    → ◌≡◌ {A = Lines} (record { at = a; apart = apart; stride = stride; right = right; down = down }) (record { at = b; apart = apart; stride = stride; right = right; down = down })
+begun a b apart stride right down e = rw e refl
+
+-- the lines of a frame that begin some lines further on
+frame_below : (f : Planes) (p : Plane) (x y n step : ℕ) (v : Vector) → pos 0 ≤ℤ (pos y +ℤ whole_samples (vector_in p v).y)
+    → behind (lines_at f p x (record { field = None; vector = v; line = y }) step) (n * width_of f p) ≡ lines_at f p x (record { field = None; vector = v; line = y + n }) step
+frame_below f p x y n step v top =
+    let down : moved (y + n) (vector_in p v).y ≡ moved y (vector_in p v).y + n = moved_more y n (vector_in p v).y top in
+    rw down (begun _ _ _ _ _ _ (omega arith))
+
+source_below : (has field : Bool) (f : Planes) (p : Plane) (x y n step : ℕ) (d : Decision) (s : ℕ) → (has && field) ≡ false → AreInside f p x (source_by has field d s y) step
+    → behind (lines_at f p x (source_by has field d s y) step) (n * width_of f p) ≡ lines_at f p x (source_by has field d s (y + n)) step
+source_below false field f p x y n step d s e h = frame_below f p x y n step _ h.top
+source_below true false f p x y n step d s e h = frame_below f p x y n step _ h.top
+source_below true true f p x y n step d s e h = absurd (true≢false e)
+
+pub lines_below : (f : Planes) (p : Plane) (x y step : ℕ) (d : Decision) (s : ℕ) (even : Lines) → even ≡ lines_at f p x (source_of d s y) step → (has_direction d s && d.field_motion) ≡ false
+    → AreInside f p x (source_of d s y) step → behind even (even.stride / 2) ≡ lines_at f p x (source_of d s (y + step)) step
+unfolding source_of
+lines_below f p x y step d s even same frame h =
+    let half : 2 * step * width_of f p / 2 ≡ step * width_of f p = omega arith in
+    rw (same, half) (source_below (has_direction d s) d.field_motion f p x y step step d s frame h)

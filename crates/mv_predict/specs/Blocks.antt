@@ -4,16 +4,11 @@ use Rattle.mv_terms.specs.declared.head.Head.{Head}
 use Rattle.mv_terms.specs.declared.macroblock.Decision.{Decision}
 use Rattle.mv_terms.specs.Block.{entry}
 use Rattle.mv_planes.specs.declared.picture.Plane.{Plane}
-use Rattle.mv_planes.specs.declared.coded.RefPair.{RefPair}
 use Rattle.mv_planes.specs.Planes.{Planes}
 use Rattle.mv_planes.specs.Lent.{column, line}
 use Rattle.mv_planes.specs.Layout.{part_at}
 use Rattle.mv_planes.specs.References.{References}
 use Rattle.mv_predict.specs.Prediction.{predicted_at}
-
--- the reference pictures that are lent
-abbrev pub references_of : RefPair → References
-references_of refs = record { forward = refs.forward.now; backward = refs.backward.now }
 
 -- a picture has the size in macroblocks that the head says
 pub record HasSizeOf (head : Head) (f : Planes) : Type 0 where

@@ -73,7 +73,8 @@ lines_at f p x s step =
 pub record AreInside (f : Planes) (p : Plane) (x : ℕ) (s : Source) (step : ℕ) : Type 0 where
   pub left : pos 0 ≤ℤ (pos x +ℤ whole_samples (vector_in p s.vector).x)
   pub top : pos 0 ≤ℤ (pos s.line +ℤ whole_samples (vector_in p s.vector).y)
-  pub right : moved x (vector_in p s.vector).x + beside_column p + 7 + half_left (vector_in p s.vector).x
+  pub right : moved x (vector_in p s.vector).x + beside_column p + 7 + half_left
+      (vector_in p s.vector).x
       < width_of f p
   pub bottom : line_in s.field (moved s.line (vector_in p s.vector).y + 3 * rows_apart s.field step
       + half_left (vector_in p s.vector).y) < height_of f p

@@ -4,7 +4,7 @@ ghost use Rattle.mv_terms.specs.Block.{entry};
 ghost use Rattle.mv_planes.specs.declared.picture.Plane.{Plane as PlaneOf};
 ghost use Rattle.mv_planes.specs.Layout.{IsBlockOf, luma_top, luma_step};
 ghost use Rattle.mv_predict.specs.Prediction.{predicted_with, goes_forward, goes_backward};
-ghost use Rattle.mv_predict.specs.Blocks.{references_of};
+ghost use Rattle.mv_planes.specs.References.{references_lent};
 ghost use Rattle.mv_predict.specs.Steps.{BlockHas, MacroblockInside};
 
 use crate::lines::predict_pair;
@@ -25,7 +25,7 @@ pub(crate) fn predict_blocks(
     requires forward { forward ≡ true → MacroblockInside refs.now.forward.now d.now 0 mb_x mb_y }
     requires backward { backward ≡ true → MacroblockInside refs.now.backward.now d.now 1 mb_x mb_y }
     ensures { (p : PlaneOf) (b : ℕ) → IsBlockOf p b → BlockHas
-        (predicted_with forward backward d.now (references_of refs.now))
+        (predicted_with forward backward d.now (references_lent refs.now))
         d.now.field_dct mb_x mb_y p b (slice_index_or out.new b []) }
 {
     let step = luma_step(d.field_dct);

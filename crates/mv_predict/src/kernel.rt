@@ -75,7 +75,7 @@ pub(crate) fn means(a: &[u8; 16], b: &[u8; 16]) -> [u8; 16]
 {
     let mut row = [0; 16];
     for k in 0..16 {
-        row[k] = ((u16::from(a[k]) + u16::from(b[k]) + 1) / 2) as u8;
+        row[k] = mean(a[k], b[k]);
     }
     row
 }
@@ -89,10 +89,30 @@ fn quarters(a: &[u8; 16], b: &[u8; 16], c: &[u8; 16], d: &[u8; 16]) -> [u8; 16]
 {
     let mut row = [0; 16];
     for k in 0..16 {
-        row[k] = ((u16::from(a[k]) + u16::from(b[k]) + u16::from(c[k]) + u16::from(d[k]) + 2)
-            / 4) as u8;
+        row[k] = quarter(a[k], b[k], c[k], d[k]);
     }
     row
+}
+
+// The mean of four samples, in bytes alone, so that sixteen are computed at once. The mean of two means is 1 too much
+// where it is rounded up, and one of the two is too.
+#[inline(always)]
+fn quarter(a: u8, b: u8, c: u8, d: u8) -> u8
+    ensures { result ≡ (a + b + c + d + 2) / 4 }
+{
+    let first = mean(a, b);
+    let second = mean(c, d);
+    let whole = mean(first, second);
+    let excess = ((a ^ b) % 2 | (c ^ d) % 2) & (first ^ second) % 2;
+    whole - excess
+}
+
+// The mean of two samples.
+#[inline(always)]
+fn mean(a: u8, b: u8) -> u8
+    ensures { result ≡ (a + b + 1) / 2 }
+{
+    ((u16::from(a) + u16::from(b) + 1) / 2) as u8
 }
 
 // Line k where no half sample is left.

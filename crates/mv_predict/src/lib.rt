@@ -9,7 +9,8 @@ ghost use Rattle.std.specs.Prelude.{◌≡◌, ℕ, ◌<◌, [], slice_index_or}
 ghost use Rattle.mv_planes.specs.declared.picture.Plane.{Plane};
 ghost use Rattle.mv_planes.specs.Layout.{IsBlockOf};
 ghost use Rattle.mv_vectors.specs.Predictable.{CanBePredicted};
-ghost use Rattle.mv_predict.specs.Blocks.{references_of, HasSizeOf, HoldsPrediction};
+ghost use Rattle.mv_planes.specs.References.{references_lent};
+ghost use Rattle.mv_predict.specs.Blocks.{HasSizeOf, HoldsPrediction};
 
 mod blocks;
 mod kernel;
@@ -45,7 +46,7 @@ pub fn predict(
     requires forward { HasSizeOf head.now refs.now.forward.now }
     requires backward { HasSizeOf head.now refs.now.backward.now }
     ensures { (p : Plane) (b : ℕ) → IsBlockOf p b → HoldsPrediction
-        head.now d.now (references_of refs.now) mb_x mb_y p b (slice_index_or out.new.blocks b []) }
+        head.now d.now (references_lent refs.now) mb_x mb_y p b (slice_index_or out.new.blocks b []) }
 {
     if d.intra {
         clear(&mut out.blocks);

@@ -2,11 +2,11 @@
 //! lie one or two lines of the frame apart, the even ones are of one source and the odd ones of another.
 ghost use Rattle.std.specs.Prelude.{◌≡◌, ℕ, ◌+◌, ◌*◌, ◌/◌, ◌^◌, ◌<◌, ◌≤◌, length, [], slice_index, slice_index_or, true};
 ghost use Rattle.mv_predict.specs.Prediction.{predicted_by, predicted_with};
-ghost use Rattle.mv_predict.specs.Blocks.{references_of};
+ghost use Rattle.mv_planes.specs.References.{references_lent};
 ghost use Rattle.mv_predict.specs.Steps.{value_at, IsReadable, LinesHave, SourcesInside, PartHas, beside, beside_column};
 
 use crate::kernel::{Lines, four_lines, means, put_half};
-use crate::source::{lines_at, source_of};
+use crate::source::{lines_at, odd_lines, source_of};
 use mv_planes::{Picture, Plane, RefPair};
 use mv_terms::Decision;
 
@@ -30,9 +30,9 @@ pub(crate) fn predict_pair(
         → SourcesInside refs.now.forward.now d.now 0 plane x y step }
     requires backward { backward ≡ true
         → SourcesInside refs.now.backward.now d.now 1 plane x y step }
-    ensures first { PartHas (predicted_with forward backward d.now (references_of refs.now))
+    ensures first { PartHas (predicted_with forward backward d.now (references_lent refs.now))
         plane x y step (slice_index_or out.new b []) }
-    ensures second { PartHas (predicted_with forward backward d.now (references_of refs.now))
+    ensures second { PartHas (predicted_with forward backward d.now (references_lent refs.now))
         (beside plane) (x + beside_column plane) y step (slice_index_or out.new (b + 1) []) }
     ensures others { (i : ℕ) → i < 6 → (i ≡ b → ⊥) → (i ≡ b + 1 → ⊥)
         → slice_index_or out.new i [] ≡ slice_index_or out.old i [] }
@@ -61,7 +61,7 @@ fn predict_both(
         → SourcesInside refs.now.forward.now d.now 0 plane x y step }
     requires backward { backward ≡ true
         → SourcesInside refs.now.backward.now d.now 1 plane x y step }
-    ensures { LinesHave (predicted_with forward backward d.now (references_of refs.now))
+    ensures { LinesHave (predicted_with forward backward d.now (references_lent refs.now))
         plane x y step out.new }
 {
     if forward {
@@ -96,7 +96,7 @@ fn predict_lines(
     ensures { LinesHave (predicted_by d.now s pic.now) plane x y step out.new }
 {
     let even = lines_at(pic, plane, x, source_of(d, s, y), step);
-    let odd = lines_at(pic, plane, x, source_of(d, s, y + step), step);
+    let odd = odd_lines(pic, plane, x, y, step, d, s, &even);
     rows(pic.samples(), &even, &odd, out);
 }
 

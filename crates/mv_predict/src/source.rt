@@ -1,10 +1,10 @@
 //! Where in a picture the samples lie that a block is predicted from.
-ghost use Rattle.std.specs.Prelude.{◌≡◌, ℕ, ◌+◌, ◌*◌, ◌/◌, ◌%◌, ◌^◌, ◌<◌, ◌≤◌, length, pos, unsigned_abs, ◌+ℤ◌, ◌≤ℤ◌};
+ghost use Rattle.std.specs.Prelude.{◌≡◌, ℕ, ◌+◌, ◌*◌, ◌/◌, ◌%◌, ◌^◌, ◌<◌, ◌≤◌, length, pos, unsigned_abs, ◌+ℤ◌, ◌≤ℤ◌, ◌&&◌};
 ghost use Rattle.mv_planes.specs.Planes.{place_of, IsInside, width_of};
 ghost use Rattle.mv_vectors.specs.Inside.{whole_samples, half_sample};
 ghost use Rattle.mv_predict.specs.Steps.{IsReadable};
-ghost use Rattle.mv_predict.specs.Prediction.{moved, line_in, vector_in, source_of};
-ghost use Rattle.mv_predict.specs.Steps.{lines_at, apart_in, distance, half_left, AreInside};
+ghost use Rattle.mv_predict.specs.Prediction.{moved, line_in, vector_in, has_direction, source_of};
+ghost use Rattle.mv_predict.specs.Steps.{lines_at, apart_in, distance, half_left, AreInside, SourcesInside};
 
 use crate::kernel::Lines;
 use mv_planes::{Picture, Plane};
@@ -81,6 +81,71 @@ fn places_at(pic: &Picture, plane: Plane, x: usize, source: Source, step: usize)
         right: half_left(v.x),
         down: half_left(v.y) * distance(pic, plane, source.field),
     }
+}
+
+/// The lines of the rows between those of `even`, a step further on.
+pub(crate) fn odd_lines(
+    pic: &Picture,
+    plane: Plane,
+    x: usize,
+    y: usize,
+    step: usize,
+    d: &Decision,
+    s: usize,
+    even: &Lines,
+) -> Lines
+    requires step { step ≤ 2 }
+    requires small { (x < 2 ^ 21) × (y < 2 ^ 21) }
+    requires s { s < 2 }
+    requires inside { SourcesInside pic.now d.now s plane x y step }
+    requires even { even.now ≡ lines_at pic.now plane x (source_of d.now s y) step }
+    requires readable { IsReadable pic.now.samples even.now }
+    ensures value { result ≡ lines_at pic.now plane x (source_of d.now s (y + step)) step }
+    ensures readable { IsReadable pic.now.samples result }
+{
+    // for the proof: the picture is whole
+    let _wide = pic.mb_wide();
+    odd_places(pic, plane, x, y, step, d, s, even)
+}
+
+// The same lines. By frame prediction they differ from the even ones in their place alone.
+fn odd_places(
+    pic: &Picture,
+    plane: Plane,
+    x: usize,
+    y: usize,
+    step: usize,
+    d: &Decision,
+    s: usize,
+    even: &Lines,
+) -> Lines
+    requires step { step ≤ 2 }
+    requires small { (x < 2 ^ 21) × (y < 2 ^ 21) }
+    requires s { s < 2 }
+    requires inside { SourcesInside pic.now d.now s plane x y step }
+    requires even { even.now ≡ lines_at pic.now plane x (source_of d.now s y) step }
+    requires readable { IsReadable pic.now.samples even.now }
+    ensures { result ≡ lines_at pic.now plane x (source_of d.now s (y + step)) step }
+{
+    // for the proof: the list is short
+    let _samples = pic.samples();
+    if has_fields(d, s) {
+        places_at(pic, plane, x, source_of(d, s, y + step), step)
+    } else {
+        Lines {
+            at: even.at + even.stride / 2,
+            ..*even
+        }
+    }
+}
+
+// Whether direction s has vectors for fields.
+fn has_fields(d: &Decision, s: usize) -> bool
+    requires { s < 2 }
+    ensures { result ≡ (has_direction d.now s && d.now.field_motion) }
+{
+    let has_direction = if s == 0 { d.forward } else { d.backward };
+    has_direction && d.field_motion
 }
 
 fn vector_in(plane: Plane, v: Vector) -> Vector
