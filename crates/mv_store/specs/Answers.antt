@@ -14,7 +14,8 @@ answer_to_anchor (Some anchor) = Previous
 
 -- the answer to a picture of type t
 abbrev pub answer_to : {A : Type 0} → (A → PicType) → PicType → List A → Shown
-answer_to type_of t before = (if is_anchor t then answer_to_anchor (held type_of before) else Current)
+answer_to type_of t before =
+    (if is_anchor t then answer_to_anchor (held type_of before) else Current)
 
 -- the pictures that an answer names, by the anchor that was held and the picture itself
 abbrev pub named_by : {A : Type 0} → Shown → Option A → A → List A
@@ -25,7 +26,8 @@ named_by Current held p = p ∷ []
 -- Whatever pictures come later, all pictures in display order are those that were shown before p came, those that the
 -- answer to p names, and others.
 abbrev pub AnswersFollowDisplayOrder : Type 0
-AnswersFollowDisplayOrder = (before : List DecodedPicture) (p : DecodedPicture) (later : List DecodedPicture)
+AnswersFollowDisplayOrder =
+    (before : List DecodedPicture) (p : DecodedPicture) (later : List DecodedPicture)
     → display_order type_of (reverse (p ∷ before) ++ later)
     ≡ shown_by type_of before
     ++ (named_by (answer_to type_of p.pic before) (held type_of before) p

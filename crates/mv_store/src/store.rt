@@ -112,7 +112,8 @@ impl RefStore {
             → committed ≡ true
             → HasCommitted mb_wide mb_high self.now (record { pic = pic; picture = picture }) before
             → HasReferences result.refs pic mb_wide mb_high before }
-        ensures last_picture { (mb_wide mb_high : ℕ) (picture : Planes) (before : List DecodedPicture)
+        ensures last_picture { (mb_wide mb_high : ℕ) (picture : Planes)
+            (before : List DecodedPicture)
             → committed ≡ true
             → HasCommitted mb_wide mb_high self.now (record { pic = pic; picture = picture }) before
             → result.picture.now ≡ picture }
