@@ -5,20 +5,21 @@
 //! of a list of coded pictures); what pictures depend on stands in `specs/Locality.antt`.
 #![tactic(auto)]
 
-ghost use Rattle.std.specs.Prelude.{◌≡◌, ◌≤◌};
+ghost use Rattle.std.specs.Prelude.{◌≡◌, ℕ, ◌<◌, ◌≤◌, [], slice_index_or};
 ghost use Rattle.mv_terms.specs.CodedPicture.{HasMacroblocks};
 ghost use Rattle.mv_planes.specs.Planes.{SameSize};
-ghost use Rattle.mv_vectors.specs.Predictable.{AllCanBeReconstructed};
-ghost use Rattle.mv_predict.specs.Blocks.{references_of, HasSizeOf};
+ghost use Rattle.mv_planes.specs.declared.picture.Plane.{Plane as PlaneOf};
+ghost use Rattle.mv_planes.specs.Layout.{IsBlockOf};
+ghost use Rattle.mv_vectors.specs.Predictable.{CanBePredicted, AllCanBeReconstructed};
+ghost use Rattle.mv_planes.specs.References.{references_lent};
+ghost use Rattle.mv_predict.specs.Blocks.{HasSizeOf, HoldsPrediction};
 ghost use Rattle.mv_recon.specs.Pictures.{picture_from};
 
 mod block;
-mod intra;
 mod laws;
 mod layout;
 
 use block::{kind_of, samples_of};
-pub use intra::reconstruct_intra;
 pub use laws::{locality_law, samples_law};
 use layout::{put_chroma, put_luma};
 use mv_planes::{Picture, Plane, RefPair};
@@ -27,6 +28,7 @@ use mv_terms::{Decision, Head, MacroLevels};
 
 /// Writes the picture of these macroblocks (H.262, 7.4 to 7.6.8), predicted from these references, into a picture of its
 /// size. Decisions and levels stand row after row, and nothing that stood in `to` before has any effect.
+#[inline(never)]
 pub fn reconstruct(
     head: &Head,
     decisions: &[Decision],
@@ -43,24 +45,22 @@ pub fn reconstruct(
     requires forward { HasSizeOf head.now refs.now.forward.now }
     requires backward { HasSizeOf head.now refs.now.backward.now }
     ensures size { SameSize to.old to.new }
-    ensures picture { to.new ≡ picture_from (references_of refs.now)
+    ensures picture { to.new ≡ picture_from (references_lent refs.now)
         (record { head = head.now; decisions = decisions.now; levels = levels.now }) }
 {
     let wide = usize::from(to.mb_wide());
     let high = usize::from(to.mb_high());
-    let mut predicted = MacroSamples {
-        blocks: [[0; 64]; 6],
-    };
+    let mut room = NOT_PREDICTED;
     'rows: for mb_y in 0..high {
         'macroblocks: for mb_x in 0..wide {
             let k = mb_y * wide + mb_x;
-            predict(
+            let predicted = prediction(
                 refs,
                 head,
                 &decisions[k],
                 mb_x as u16,
                 mb_y as u16,
-                &mut predicted,
+                &mut room,
             );
             let field_dct = decisions[k].field_dct;
             let kind = kind_of(head, &decisions[k]);
@@ -76,6 +76,36 @@ pub fn reconstruct(
         }
     }
 }
+
+/// The prediction of a macroblock. That of an intra one is zero and needs no room.
+fn prediction<'a>(
+    refs: &RefPair<'_>,
+    head: &Head,
+    decision: &Decision,
+    mb_x: u16,
+    mb_y: u16,
+    room: &'a mut MacroSamples,
+) -> &'a MacroSamples
+    requires across { mb_x < head.now.mb_wide }
+    requires down { mb_y < head.now.mb_high }
+    requires decision { CanBePredicted head.now mb_x mb_y decision.now }
+    requires forward { HasSizeOf head.now refs.now.forward.now }
+    requires backward { HasSizeOf head.now refs.now.backward.now }
+    ensures { (p : PlaneOf) (b : ℕ) → IsBlockOf p b → HoldsPrediction
+        head.now decision.now (references_lent refs.now) mb_x mb_y p b
+        (slice_index_or result.now.blocks b []) }
+{
+    if decision.intra {
+        return &NOT_PREDICTED;
+    }
+    predict(refs, head, decision, mb_x, mb_y, room);
+    room
+}
+
+/// The prediction of an intra macroblock.
+const NOT_PREDICTED: MacroSamples = MacroSamples {
+    blocks: [[0; 64]; 6],
+};
 
 #[cfg(test)]
 mod tests;
