@@ -1,0 +1,4 @@
+mod HeaderLaws
+mod PictureLemmas
+mod DecodeLaws
+mod AcceptedLaws
