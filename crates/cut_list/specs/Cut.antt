@@ -95,7 +95,8 @@ cut_by n g others = cut_with n g.text g.fault others
 unfoldable pub cut_from : (List ℕ → List ℕ) → Option FrameHeader → ℕ → List Entry → Cut
 cut_from input first n [] = record { text = []; fault = None }
 cut_from input first n (e ∷ entries) =
-    cut_by n (line_given first e.from e.to (file_of (input e.name))) (cut_from input (first_header first (file_of (input e.name))) (n + 1) entries)
+    cut_by n (line_given first e.from e.to (file_of (input e.name)))
+    (cut_from input (first_header first (file_of (input e.name))) (n + 1) entries)
 
 abbrev pub cut_of : (List ℕ → List ℕ) → List Entry → Cut
 cut_of input entries = cut_from input None 1 entries
@@ -106,7 +107,8 @@ status_of (Some (n, fault)) = status.Line n fault
 
 -- What `cut` answers and writes. Input 0 is the list, input n that of line n. What was read is a front of the text.
 abbrev pub outcome_by : (List ℕ → List ℕ) → Result (List Entry) ℕ → Outcome Status
-outcome_by input (Err n) = record { answer = status.Line n BadLine; output = []; at_open = λ k. []; given = λ k. [] }
+outcome_by input (Err n) =
+    record { answer = status.Line n BadLine; output = []; at_open = λ k. []; given = λ k. [] }
 outcome_by input (Ok entries) = record {
   answer = status_of (cut_of input entries).fault;
   output = (cut_of input entries).text;
@@ -131,25 +133,31 @@ pub record RoseAt (entries : List Entry) (line : ℕ) (before now : List ℕ →
   pub rose : Rose (before entry.name) (now entry.name)
 
 -- An input of a line couldn't be opened: its faults rose, and the output of the lines before it is written.
-abbrev pub FailsToOpenLine : Option Inputs → List Entry → (List ℕ → ℕ) → (List ℕ → ℕ) → Option (List ℕ) → Option (List ℕ) → Type 0
+abbrev pub FailsToOpenLine : Option Inputs → List Entry → (List ℕ → ℕ) → (List ℕ → ℕ)
+    → Option (List ℕ) → Option (List ℕ) → Type 0
 FailsToOpenLine named entries before now old new = (line : ℕ) × RoseAt entries line before now
     × ForSome named (λ inputs. Appends old new (cut_of (input_of inputs) (take line entries)).text)
 
 -- An input of a line couldn't be read: its faults rose, and no more than the output up to this line is written.
-abbrev pub FailsToReadLine : Option Inputs → List Entry → (List ℕ → ℕ) → (List ℕ → ℕ) → Option (List ℕ) → Option (List ℕ) → Type 0
+abbrev pub FailsToReadLine : Option Inputs → List Entry → (List ℕ → ℕ) → (List ℕ → ℕ)
+    → Option (List ℕ) → Option (List ℕ) → Type 0
 FailsToReadLine named entries before now old new = (line : ℕ) × RoseAt entries line before now
-    × ForSome named (λ inputs. AppendsPart old new (cut_of (input_of inputs) (take (line + 1) entries)).text)
+    × ForSome named
+    (λ inputs. AppendsPart old new (cut_of (input_of inputs) (take (line + 1) entries)).text)
 
 -- the entries are those of the list of this name, where the inputs are told
 abbrev pub AreListed : Option Inputs → List ℕ → List Entry → Type 0
-AreListed named list entries = ForSome named (λ inputs. entries_of (input_of inputs list) ≡ Ok entries)
+AreListed named list entries =
+    ForSome named (λ inputs. entries_of (input_of inputs list) ≡ Ok entries)
 
 -- The list couldn't be opened, or the input of one of its lines.
-abbrev pub FailsToOpenCut : List ℕ → Option Inputs → (List ℕ → ℕ) → (List ℕ → ℕ) → Option (List ℕ) → Option (List ℕ) → Type 0
+abbrev pub FailsToOpenCut : List ℕ → Option Inputs → (List ℕ → ℕ) → (List ℕ → ℕ) → Option (List ℕ)
+    → Option (List ℕ) → Type 0
 FailsToOpenCut list named before now old new = (Rose (before list) (now list) × Keeps old new)
     ⊎ ((entries : List Entry) × AreListed named list entries × FailsToOpenLine named entries before now old new)
 
 -- The list couldn't be read, or the input of one of its lines.
-abbrev pub FailsToReadCut : List ℕ → Option Inputs → (List ℕ → ℕ) → (List ℕ → ℕ) → Option (List ℕ) → Option (List ℕ) → Type 0
+abbrev pub FailsToReadCut : List ℕ → Option Inputs → (List ℕ → ℕ) → (List ℕ → ℕ) → Option (List ℕ)
+    → Option (List ℕ) → Type 0
 FailsToReadCut list named before now old new = (Rose (before list) (now list) × Keeps old new)
     ⊎ ((entries : List Entry) × AreListed named list entries × FailsToReadLine named entries before now old new)

@@ -36,7 +36,8 @@ unfoldable pub name_of : List ℕ → Option (List ℕ)
 name_of name = if is_name name then Some name else None
 
 unfoldable pub in_order : List ℕ → ℕ → ℕ → Option Entry
-in_order name from to = if nat_le from to then Some (record { name = name; from = from; to = to }) else None
+in_order name from to =
+    if nat_le from to then Some (record { name = name; from = from; to = to }) else None
 
 -- what a line says, without its line feed
 unfoldable pub entry_of : List ℕ → Option Entry

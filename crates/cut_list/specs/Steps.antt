@@ -28,7 +28,8 @@ ReadsList bytes (Ok entries) = entries_of bytes ≡ Ok entries.items
 ReadsList bytes (Err (list_fault.BadLine n)) = entries_of bytes ≡ Err n
 ReadsList bytes (Err list_fault.NoMemory) = Unit {0}
 
-abbrev pub words_now : Option (Bor (List ℕ) × Bor (List ℕ) × Bor (List ℕ)) → Option (List ℕ × List ℕ × List ℕ)
+abbrev pub words_now : Option (Bor (List ℕ) × Bor (List ℕ) × Bor (List ℕ))
+    → Option (List ℕ × List ℕ × List ℕ)
 words_now None = None
 words_now (Some words) = Some (words.0.now, words.1.now, words.2.now)
 
@@ -62,11 +63,14 @@ piece first opening samples = (if first then opening else []) ++ frame samples
 
 -- what is written of frame `count`
 abbrev pub listed_piece : ℕ → ℕ → List ℕ → List ℕ → List ℕ
-listed_piece from count opening samples = if nat_le from count then piece (count == from) opening samples else []
+listed_piece from count opening samples =
+    if nat_le from count then piece (count == from) opening samples else []
 
-abbrev pub Copies : List ℕ → Listed → Option (List ℕ) → Option (List ℕ) → Result (Unit {0}) Stop → Type 0
+abbrev pub Copies : List ℕ → Listed → Option (List ℕ) → Option (List ℕ) → Result (Unit {0}) Stop
+    → Type 0
 Copies opening l old new (Ok _) = (l.fault ≡ None) × Appends old new (text_of opening l.frames)
-Copies opening l old new (Err (stop.Fault fault)) = (l.fault ≡ Some fault) × Appends old new (text_of opening l.frames)
+Copies opening l old new (Err (stop.Fault fault)) =
+    (l.fault ≡ Some fault) × Appends old new (text_of opening l.frames)
 Copies opening l old new (Err stop.Read) = AppendsPart old new (text_of opening l.frames)
 Copies opening l old new (Err stop.Write) = AppendsFront old new (text_of opening l.frames)
 
@@ -76,7 +80,8 @@ stop_of halt.Read = stop.Read
 stop_of halt.NoMemory = stop.Read
 
 -- What was copied so far of an input that begins with `begun` and goes on with `left`.
-pub record Copied (from : ℕ) (opening : List ℕ) (r : Reading) (rest : Option (List ℕ)) (count : ℕ) (old new : Option (List ℕ)) (begun left : List ℕ) : Type 0 where
+pub record Copied (from : ℕ) (opening : List ℕ) (r : Reading) (rest : Option (List ℕ)) (count : ℕ)
+    (old new : Option (List ℕ)) (begun left : List ℕ) : Type 0 where
   pub past : List ℕ
   pub done : List (List ℕ)
   pub behind : List ℕ
@@ -91,8 +96,10 @@ abbrev pub Grows : Option (List ℕ) → Option (List ℕ) → Type 0
 Grows old new = (bytes : List ℕ) × Appends old new bytes
 
 -- How a line ends, of which this is given, and behind which line 1's input has this header.
-abbrev pub LineEnds : Given → Option FrameHeader → Option (List ℕ) → Option (List ℕ) → Result FrameHeader Halted → Type 0
-LineEnds g next old new (Ok header) = (g.fault ≡ None) × (next ≡ Some header) × Appends old new g.text
+abbrev pub LineEnds : Given → Option FrameHeader → Option (List ℕ) → Option (List ℕ)
+    → Result FrameHeader Halted → Type 0
+LineEnds g next old new (Ok header) =
+    (g.fault ≡ None) × (next ≡ Some header) × Appends old new g.text
 LineEnds g next old new (Err (halted.Fault fault)) = (g.fault ≡ Some fault) × Appends old new g.text
 LineEnds g next old new (Err halted.Open) = Keeps old new
 LineEnds g next old new (Err halted.Read) = AppendsPart old new g.text
@@ -131,7 +138,8 @@ halted_status line halted.NoMemory = status.NoMemory
 
 -- No entries were read: a line is refused, or an endpoint failed, or there was no memory.
 abbrev pub IsUnlisted : Option Inputs → List ℕ → Status → Type 0
-IsUnlisted named list (status.Line n fault) = (fault ≡ why.BadLine) × ForSome named (λ inputs. entries_of (input_of inputs list) ≡ Err n)
+IsUnlisted named list (status.Line n fault) =
+    (fault ≡ why.BadLine) × ForSome named (λ inputs. entries_of (input_of inputs list) ≡ Err n)
 IsUnlisted named list status.OpenFault = Unit {0}
 IsUnlisted named list status.ReadFault = Unit {0}
 IsUnlisted named list status.NoMemory = Unit {0}
@@ -142,7 +150,9 @@ abbrev pub onto : List ℕ → Cut → Cut
 onto text cut = record { text = text ++ cut.text; fault = cut.fault }
 
 -- What was written of a cut so far: the lines before line i, counted from 0, whatever lines follow.
-pub record CutSoFar (input : List ℕ → List ℕ) (entries : List Entry) (i : ℕ) (first : Option FrameHeader) (old new : Option (List ℕ)) : Type 0 where
+pub record CutSoFar (input : List ℕ → List ℕ) (entries : List Entry) (i : ℕ)
+    (first : Option FrameHeader) (old new : Option (List ℕ)) : Type 0 where
   pub text : List ℕ
-  pub whole : (more : List Entry) → cut_of input (take i entries ++ more) ≡ onto text (cut_from input first (i + 1) more)
+  pub whole : (more : List Entry)
+      → cut_of input (take i entries ++ more) ≡ onto text (cut_from input first (i + 1) more)
   pub written : Appends old new text

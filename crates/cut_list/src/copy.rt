@@ -8,6 +8,7 @@ ghost use Rattle.mv_ends.specs.Shelves.{KeepsShelf};
 ghost use Rattle.mv_ends.specs.Moves.{AppendsFront};
 ghost use Rattle.y4m_frames.specs.Frames.{File, file_of, frame_len};
 ghost use Rattle.y4m_frames.specs.Reading.{left_of, StandsFor};
+ghost use Rattle.cut_list.specs.declared.copy.Stop.TheVariants as stops;
 ghost use Rattle.cut_list.specs.Cut.{listed, line_fault};
 ghost use Rattle.cut_list.specs.Steps.{Grows, piece, listed_piece, Copies, stop_of};
 
@@ -20,6 +21,25 @@ pub(crate) enum Stop {
     Fault(LineFault),
     Read,
     Write,
+}
+
+impl From<Halt> for Stop {
+    ghost from_gives = { λ halt stop. stop ≡ stop_of halt };
+
+    fn from(halt: Halt) -> Stop {
+        match halt {
+            Halt::Fault(fault) => Stop::Fault(line_fault(fault)),
+            Halt::Read | Halt::NoMemory => Stop::Read,
+        }
+    }
+}
+
+impl From<Failed> for Stop {
+    ghost from_gives = { λ _ stop. stop ≡ stops.Write };
+
+    fn from(_failed: Failed) -> Stop {
+        Stop::Write
+    }
 }
 
 /// Copies the frames `from` to `to` of an input that a reader has just begun, behind an opening.
@@ -35,27 +55,27 @@ pub(crate) fn copy_frames<S: Shelf, O: Sink>(
     requires runs { reader.old.failed ≡ None }
     requires frame { length frame.old ≡ frame_len reader.old.header }
     ensures copies { (past : List ℕ) (file : File) → StandsFor reader.old past [] →
-        ForSome (left_of reader.old (S.rest shelf.old)) (λ s. file_of (past ++ s) ≡ Ok file →
-        Copies opening.now (listed from to file.frames) (O.written out.old) (O.written out.new) result) }
+        ForSome (left_of reader.old (S.rest shelf.old)) (λ left. file_of (past ++ left) ≡ Ok file →
+        Copies opening.now (listed from to file.frames)
+        (O.written out.old) (O.written out.new) result) }
     ensures grown { Grows (O.written out.old) (O.written out.new) }
-    ensures read { IsErrOf result Stop.Read → RoseForSelected (S.selected shelf.old) (S.read_faults shelf.old) (S.read_faults shelf.new) }
-    ensures write { IsErrOf result Stop.Write → FailedWrite (O.faults out.old) (O.faults out.new) (O.room out.old) (O.written out.old) (O.written out.new) }
+    ensures read { IsErrOf result Stop.Read → RoseForSelected (S.selected shelf.old)
+        (S.read_faults shelf.old) (S.read_faults shelf.new) }
+    ensures write { IsErrOf result Stop.Write → FailedWrite (O.faults out.old) (O.faults out.new)
+        (O.room out.old) (O.written out.old) (O.written out.new) }
     ensures same_room { O.room out.new ≡ O.room out.old }
-    ensures count { Counts (O.faults out.old) (O.faults out.new) (O.room out.old) (O.written out.old) (O.written out.new) }
+    ensures count { Counts (O.faults out.old) (O.faults out.new)
+        (O.room out.old) (O.written out.old) (O.written out.new) }
     ensures chosen { S.selected shelf.new ≡ S.selected shelf.old }
     ensures keeps { KeepsShelf S.named S.open_faults S.read_faults shelf.old shelf.new }
 {
     let mut count: u64 = 0;
     'frames: while count <= to as u64 {
-        match reader.next(shelf, frame) {
-            Ok(true) => {}
-            Ok(false) => return Err(Stop::Fault(LineFault::ShortInput)),
-            Err(halt) => return Err(stop_of(halt)),
+        let some = reader.next(shelf, frame)?;
+        if !some {
+            return Err(Stop::Fault(LineFault::ShortInput));
         }
-        match write_listed(from as u64, count, opening, frame, out) {
-            Ok(()) => {}
-            Err(_) => return Err(Stop::Write),
-        }
+        write_listed(from as u64, count, opening, frame, out)?;
         count += 1;
     }
     Ok(())
@@ -68,7 +88,8 @@ fn write_piece<O: Sink>(
     samples: &[u8],
     out: &mut O,
 ) -> Result<(), Failed>
-    ensures { Sends O.written O.faults O.room out.old out.new (piece first opening.now samples.now) result }
+    ensures { Sends O.written O.faults O.room out.old out.new
+        (piece first opening.now samples.now) result }
 {
     if first {
         send_all(out, &[opening, "FRAME\n".as_bytes(), samples])
@@ -85,7 +106,8 @@ fn write_listed<O: Sink>(
     samples: &[u8],
     out: &mut O,
 ) -> Result<(), Failed>
-    ensures { Sends O.written O.faults O.room out.old out.new (listed_piece from count opening.now samples.now) result }
+    ensures { Sends O.written O.faults O.room out.old out.new
+        (listed_piece from count opening.now samples.now) result }
 {
     if from <= count {
         write_piece(count == from, opening, samples, out)
@@ -100,14 +122,5 @@ fn line_fault(fault: FrameFault) -> LineFault
     match fault {
         FrameFault::NoFrames => LineFault::ShortInput,
         _ => LineFault::Frames(fault),
-    }
-}
-
-fn stop_of(halt: Halt) -> Stop
-    ensures { result ≡ stop_of halt }
-{
-    match halt {
-        Halt::Fault(fault) => Stop::Fault(line_fault(fault)),
-        Halt::Read | Halt::NoMemory => Stop::Read,
     }
 }

@@ -17,24 +17,27 @@ use mv_terms::{LineFault, Status};
 use std::alloc::{AllocError, Global};
 use y4m_frames::read_all;
 
-/// Writes the frames that a list names, as one frame file: the header line of the input of line 1, and for each line
-/// the frames that it lists. The list is the input of the name `list`; it is read whole before anything is written.
+/// Writes the frames that a list names, as one frame file: the header line of the input of line 1,
+/// and for each line the frames that it lists. The list is the input of the name `list`; it is read
+/// whole before anything is written.
 pub fn cut_job<S: Shelf, O: Sink>(alloc: Global, list: &str, shelf: &mut S, out: &mut O) -> Status
-    // Where the inputs are told, it ends as it is defined, but for want of memory and for the faults below.
-    ensures ends { ForSome (S.named shelf.old) (λ inputs. Ends (cut_outcome inputs list.now) (ending_of result)
-        (O.written out.old) (O.written out.new)) }
+    // Where the inputs are told, it ends as it is defined, but for want of memory and for the
+    // faults below.
+    ensures ends { ForSome (S.named shelf.old)
+        (λ inputs. Ends (cut_outcome inputs list.now) (ending_of result) (O.written out.old)
+        (O.written out.new)) }
 
     // Also where they aren't told, no other statuses come.
     ensures kind { IsCutStatus result }
 
-    // A fault of an endpoint is answered only where it was counted in this call, for the list or for the input of one
-    // of its lines, with the output of the lines before it.
+    // A fault of an endpoint is answered only where it was counted in this call, for the list or
+    // for the input of one of its lines, with the output of the lines before it.
     ensures open_fault { result ≡ Status.OpenFault → FailsToOpenCut list.now (S.named shelf.old)
         (S.open_faults shelf.old) (S.open_faults shelf.new) (O.written out.old) (O.written out.new) }
     ensures read_fault { result ≡ Status.ReadFault → FailsToReadCut list.now (S.named shelf.old)
         (S.read_faults shelf.old) (S.read_faults shelf.new) (O.written out.old) (O.written out.new) }
-    ensures write_fault { result ≡ Status.WriteFault → FailedWrite (O.faults out.old) (O.faults out.new)
-        (O.room out.old) (O.written out.old) (O.written out.new) }
+    ensures write_fault { result ≡ Status.WriteFault → FailedWrite (O.faults out.old)
+        (O.faults out.new) (O.room out.old) (O.written out.old) (O.written out.new) }
 
     ensures same_room { O.room out.new ≡ O.room out.old }
     ensures count { Counts (O.faults out.old) (O.faults out.new)
@@ -92,15 +95,16 @@ fn cut_entries<S: Shelf, O: Sink>(
     out: &mut O,
 ) -> Status
     requires { length entries.now ≤ 4096 }
-    ensures ends { ForSome (S.named shelf.old) (λ inputs. Ends (outcome_by (input_of inputs) (Ok entries.now))
-        (ending_of result) (O.written out.old) (O.written out.new)) }
+    ensures ends { ForSome (S.named shelf.old)
+        (λ inputs. Ends (outcome_by (input_of inputs) (Ok entries.now)) (ending_of result)
+        (O.written out.old) (O.written out.new)) }
     ensures kind { IsCutStatus result }
     ensures open_fault { result ≡ Status.OpenFault → FailsToOpenLine (S.named shelf.old) entries.now
         (S.open_faults shelf.old) (S.open_faults shelf.new) (O.written out.old) (O.written out.new) }
     ensures read_fault { result ≡ Status.ReadFault → FailsToReadLine (S.named shelf.old) entries.now
         (S.read_faults shelf.old) (S.read_faults shelf.new) (O.written out.old) (O.written out.new) }
-    ensures write_fault { result ≡ Status.WriteFault → FailedWrite (O.faults out.old) (O.faults out.new)
-        (O.room out.old) (O.written out.old) (O.written out.new) }
+    ensures write_fault { result ≡ Status.WriteFault → FailedWrite (O.faults out.old)
+        (O.faults out.new) (O.room out.old) (O.written out.old) (O.written out.new) }
     ensures same_room { O.room out.new ≡ O.room out.old }
     ensures count { Counts (O.faults out.old) (O.faults out.new)
         (O.room out.old) (O.written out.old) (O.written out.new) }

@@ -5,6 +5,7 @@ ghost use Rattle.mv_ends.specs.Causes.{Counts, FailedWrite, Rose, RoseForSelecte
 ghost use Rattle.mv_ends.specs.Shelves.{KeepsShelf};
 ghost use Rattle.mv_ends.specs.Moves.{input_of};
 ghost use Rattle.y4m_frames.specs.Frames.{file_of, frame_len};
+ghost use Rattle.cut_list.specs.declared.line.Halted.TheVariants as endings;
 ghost use Rattle.cut_list.specs.Cut.{same_kind, line_given, first_header};
 ghost use Rattle.cut_list.specs.Steps.{Grows, LineEnds, kind_of, differs, opening_of, not_started, halted_of};
 
@@ -23,8 +24,40 @@ pub(crate) enum Halted {
     NoMemory,
 }
 
-/// Writes the frames that a line lists, of an input whose frames are of the kind of the first line's, if it isn't the
-/// first itself. It answers the header of the first line's input.
+impl From<Halt> for Halted {
+    ghost from_gives = { λ halt halted. halted ≡ not_started halt };
+
+    fn from(halt: Halt) -> Halted {
+        match halt {
+            Halt::Fault(fault) => Halted::Fault(LineFault::Frames(fault)),
+            Halt::Read => Halted::Read,
+            Halt::NoMemory => Halted::NoMemory,
+        }
+    }
+}
+
+impl From<Stop> for Halted {
+    ghost from_gives = { λ stop halted. halted ≡ halted_of stop };
+
+    fn from(stop: Stop) -> Halted {
+        match stop {
+            Stop::Fault(fault) => Halted::Fault(fault),
+            Stop::Read => Halted::Read,
+            Stop::Write => Halted::Write,
+        }
+    }
+}
+
+impl From<AllocError> for Halted {
+    ghost from_gives = { λ _ halted. halted ≡ endings.NoMemory };
+
+    fn from(_none: AllocError) -> Halted {
+        Halted::NoMemory
+    }
+}
+
+/// Writes the frames that a line lists, of an input whose frames are of the kind of the first
+/// line's, if it isn't the first itself. It answers the header of the first line's input.
 #[tactic(auto, using(crate::proofs::CopyExits::grows_not, std::proofs::lemmas::Grind::common_steps))]
 pub(crate) fn cut_line<S: Shelf, O: Sink>(
     alloc: Global,
@@ -40,51 +73,37 @@ pub(crate) fn cut_line<S: Shelf, O: Sink>(
         (first_header first (file_of (input_of inputs name.now)))
         (O.written out.old) (O.written out.new) result) }
     ensures grown { Grows (O.written out.old) (O.written out.new) }
-    ensures open { IsErrOf result Halted.Open → Rose (S.open_faults shelf.old name.now) (S.open_faults shelf.new name.now) }
-    ensures read { IsErrOf result Halted.Read → Rose (S.read_faults shelf.old name.now) (S.read_faults shelf.new name.now) }
-    ensures write { IsErrOf result Halted.Write → FailedWrite (O.faults out.old) (O.faults out.new) (O.room out.old) (O.written out.old) (O.written out.new) }
+    ensures open { IsErrOf result Halted.Open
+        → Rose (S.open_faults shelf.old name.now) (S.open_faults shelf.new name.now) }
+    ensures read { IsErrOf result Halted.Read
+        → Rose (S.read_faults shelf.old name.now) (S.read_faults shelf.new name.now) }
+    ensures write { IsErrOf result Halted.Write → FailedWrite (O.faults out.old) (O.faults out.new)
+        (O.room out.old) (O.written out.old) (O.written out.new) }
     ensures same_room { O.room out.new ≡ O.room out.old }
-    ensures count { Counts (O.faults out.old) (O.faults out.new) (O.room out.old) (O.written out.old) (O.written out.new) }
+    ensures count { Counts (O.faults out.old) (O.faults out.new)
+        (O.room out.old) (O.written out.old) (O.written out.new) }
     ensures keeps { KeepsShelf S.named S.open_faults S.read_faults shelf.old shelf.new }
 {
     match shelf.select(name) {
         Ok(()) => {}
         Err(_) => return Err(Halted::Open),
     }
-    let mut reader = match FrameReader::start(alloc, shelf) {
-        Ok(reader) => reader,
-        Err(halt) => return Err(not_started(halt)),
-    };
+    let mut reader = FrameReader::start(alloc, shelf)?;
     let header = *reader.header();
     if differs(first, &header) {
         return Err(Halted::Fault(LineFault::Differs));
     }
-    let mut frame = match frame_of(alloc, &header) {
-        Ok(frame) => frame,
-        Err(_) => return Err(Halted::NoMemory),
-    };
-    let line = match Vec::from_slice(alloc, reader.line()) {
-        Ok(line) => line,
-        Err(_) => return Err(Halted::NoMemory),
-    };
-    match copy_frames(
-        &mut reader,
-        shelf,
-        from,
-        to,
-        opening_of(first, &line),
-        &mut frame,
-        out,
-    ) {
-        Ok(()) => Ok(kind_of(first, header)),
-        Err(stop) => Err(halted_of(stop)),
-    }
+    let mut frame = frame_of(alloc, &header)?;
+    let line = Vec::from_slice(alloc, reader.line())?;
+    let opening = opening_of(first, &line);
+    copy_frames(&mut reader, shelf, from, to, opening, &mut frame, out)?;
+    Ok(kind_of(first, header))
 }
 
-fn same_kind(a: &FrameHeader, b: &FrameHeader) -> bool
-    ensures { result ≡ same_kind a.now b.now }
+fn same_kind(one: &FrameHeader, other: &FrameHeader) -> bool
+    ensures { result ≡ same_kind one.now other.now }
 {
-    a.wide == b.wide && a.high == b.high && a.progressive == b.progressive
+    one.wide == other.wide && one.high == other.high && one.progressive == other.progressive
 }
 
 // Whether this header is of another kind than that of the first line, if it isn't the first itself.
@@ -114,26 +133,6 @@ fn kind_of(first: Option<FrameHeader>, header: FrameHeader) -> FrameHeader
     match first {
         None => header,
         Some(first) => first,
-    }
-}
-
-fn not_started(halt: Halt) -> Halted
-    ensures { result ≡ not_started halt }
-{
-    match halt {
-        Halt::Fault(fault) => Halted::Fault(LineFault::Frames(fault)),
-        Halt::Read => Halted::Read,
-        Halt::NoMemory => Halted::NoMemory,
-    }
-}
-
-fn halted_of(stop: Stop) -> Halted
-    ensures { result ≡ halted_of stop }
-{
-    match stop {
-        Stop::Fault(fault) => Halted::Fault(fault),
-        Stop::Read => Halted::Read,
-        Stop::Write => Halted::Write,
     }
 }
 

@@ -25,8 +25,9 @@ fn frame_file(alloc: Global, header: &[u8], frames: &[u8]) -> Result<Vec<u8>, Al
     Ok(file)
 }
 
-// The list `l`; `a`, a file of four frames, whose last one has samples that are too high; `b`, a file with another
-// header line of two frames; `c`, a file of another size; `e`, a header line alone.
+// The list `l`; `a`, a file of four frames, whose last one has samples that are too high; `b`, a
+// file with another header line of two frames; `c`, a file of another size; `e`, a header line
+// alone.
 fn inputs(alloc: Global, list: &[u8]) -> Result<Vec<(String, Vec<u8>)>, AllocError> {
     let mut inputs = Vec::new(alloc);
     let files = [
@@ -45,7 +46,8 @@ fn inputs(alloc: Global, list: &[u8]) -> Result<Vec<(String, Vec<u8>)>, AllocErr
     Ok(inputs)
 }
 
-// The cut of this list ends so, and writes this header line and these frames; nothing, where there are none.
+// The cut of this list ends so, and writes this header line and these frames; nothing, where there
+// are none.
 fn cuts(
     rt: &impl Abort,
     alloc: Global,
