@@ -1,37 +1,103 @@
--- The frame file that pictures decode to.
-use Rattle.std.specs.Prelude.{◌≡◌, ℕ, true, List, [], ◌∷◌, ◌++◌, map, reverse}
+-- The frame file that the units of a stream decode to. Units, and what is made of them, are in coded order, the latest
+-- first.
+use Rattle.std.specs.Prelude.{◌≡◌, ℕ, List, [], ◌∷◌, ◌++◌, map, reverse, take}
 use Rattle.std.specs.List.{flat_map}
-use Rattle.mv_terms.specs.declared.head.Context.{Context}
-use Rattle.mv_terms.specs.CodedPicture.{CodedPicture, pic_of}
-use Rattle.mv_terms.specs.Order.{display_order, shown_by, held, listed}
-use Rattle.mv_terms.specs.PicTypes.{is_anchor}
+use Rattle.mv_terms.specs.declared.frame_header.FrameHeader.{FrameHeader}
+use Rattle.mv_terms.specs.declared.head.PicType.{PicType}
+use Rattle.mv_terms.specs.Order.{display_order, shows, held, listed}
 use Rattle.mv_terms.specs.Rates.{frame_header_of}
-use Rattle.mv_recon.specs.Pictures.{intra_picture}
+use Rattle.mv_units.specs.Profile.{CodedUnit}
+use Rattle.mv_planes.specs.Planes.{Planes}
+use Rattle.mv_planes.specs.References.{DecodedPicture}
+use Rattle.mv_recon.specs.Decoded.{decoded_behind, pictures_of}
 use Rattle.rec_bury.specs.FrameBytes.{unrecorded}
 use Rattle.y4m_frames.specs.FrameFile.{frame, frame_file, header_line}
 
--- the sample bytes of the frame of a coded picture, which has no record
-abbrev pub frame_samples : CodedPicture → List ℕ
-frame_samples coded = unrecorded (intra_picture coded)
+-- The frame of a unit: the picture that it decodes to, and its sample bytes.
+pub record UnitFrame : Type 0 where
+  pub unit : CodedUnit
+  pub decoded : DecodedPicture
+  pub samples : List ℕ
 
--- The header line of the first unit's sequence, and the frames of the coded pictures in the order in which they are
--- shown. So far all pictures are I pictures, and frames carry no records.
-abbrev pub frame_file_of : Context → List CodedPicture → List ℕ
-frame_file_of context pictures = frame_file (frame_header_of context) (map frame_samples (display_order pic_of pictures))
+abbrev pub pic_of_frame : UnitFrame → PicType
+pic_of_frame f = f.decoded.pic
 
--- A frame file grows by the frame of an anchor that comes last, whatever the pictures before it are.
-abbrev pub FrameFileGrows : Type 0
-FrameFileGrows = (context : Context) (pictures : List CodedPicture) (last : CodedPicture)
-    → is_anchor (pic_of last) ≡ true
-    → frame_file_of context (pictures ++ last ∷ []) ≡ frame_file_of context pictures ++ frame (frame_samples last)
+-- the pictures of frames
+abbrev pub pictures_in : List UnitFrame → List DecodedPicture
+pictures_in frames = map (λ f. f.decoded) frames
 
--- the frames of these pictures, one after another
-abbrev pub frames : List CodedPicture → List ℕ
-frames pictures = flat_map frame (map frame_samples pictures)
+-- The frame of a unit behind other frames. So far frames carry no records, and its bytes are those of its picture alone.
+unfoldable pub frame_behind : List UnitFrame → CodedUnit → UnitFrame
+frame_behind before u = record {
+  unit = u;
+  decoded = decoded_behind (pictures_in before) u.picture;
+  samples = unrecorded (decoded_behind (pictures_in before) u.picture).picture;
+}
 
--- A frame file step by step: the header line, the frames of what was shown while the pictures came, the latest first,
--- and the frame of the anchor that is held then.
-abbrev pub FrameFileIsShown : Type 0
-FrameFileIsShown = (context : Context) (before : List CodedPicture)
-    → frame_file_of context (reverse before)
-    ≡ header_line (frame_header_of context) ++ (frames (shown_by pic_of before) ++ frames (listed (held pic_of before)))
+-- the frames of units
+unfoldable pub frames_of : List CodedUnit → List UnitFrame
+frames_of [] = []
+frames_of (u ∷ before) = frame_behind (frames_of before) u ∷ frames_of before
+
+-- their sample bytes in the order in which they are shown (H.262, 6.1.1.11)
+abbrev pub shown_samples : List UnitFrame → List (List ℕ)
+shown_samples frames = map (λ f. f.samples) (display_order pic_of_frame (reverse frames))
+
+-- the header of the first frame's sequence, which is the last one here
+abbrev pub header_of : UnitFrame → List UnitFrame → FrameHeader
+header_of f [] = frame_header_of f.unit.accepted.heads.context
+header_of f (g ∷ before) = header_of g before
+
+-- The header line of the first frame's sequence, and the frames in the order in which they are shown; nothing where
+-- there is none.
+abbrev pub file_of : List UnitFrame → List ℕ
+file_of [] = []
+file_of (f ∷ before) = frame_file (header_of f before) (shown_samples (f ∷ before))
+
+abbrev pub frame_file_of : List CodedUnit → List ℕ
+frame_file_of units = file_of (frames_of units)
+
+-- the header line and the first n frames of it
+abbrev pub file_front : ℕ → List UnitFrame → List ℕ
+file_front n [] = []
+file_front n (f ∷ before) = frame_file (header_of f before) (take n (shown_samples (f ∷ before)))
+
+-- frames one after another, as they stand in a file
+abbrev pub bytes_of : List UnitFrame → List ℕ
+bytes_of frames = flat_map frame (map (λ f. f.samples) frames)
+
+-- What may be written as soon as a unit comes behind others: the header line before the first one, and the frame that is
+-- shown then.
+abbrev pub opening : List UnitFrame → UnitFrame → List ℕ
+opening [] f = header_line (frame_header_of f.unit.accepted.heads.context)
+opening (g ∷ before) f = []
+
+abbrev pub gives : List UnitFrame → UnitFrame → List ℕ
+gives before f = opening before f ++ bytes_of (shows pic_of_frame (held pic_of_frame before) f)
+
+-- what is due as soon as these units came
+unfoldable pub due_to : List UnitFrame → List ℕ
+due_to [] = []
+due_to (f ∷ before) = due_to before ++ gives before f
+
+abbrev pub due : List CodedUnit → List ℕ
+due units = due_to (frames_of units)
+
+-- the frame of the anchor that is held then
+abbrev pub held_frame : List CodedUnit → List ℕ
+held_frame units = bytes_of (listed (held pic_of_frame (frames_of units)))
+
+-- LAWS: the frame file of units is what is due to them, and then the frame that is held;
+abbrev pub FileIsDueAndHeld : Type 0
+FileIsDueAndHeld = (units : List CodedUnit) → frame_file_of units ≡ due units ++ held_frame units
+
+-- what is due to units stays at the front of what is due to more;
+abbrev pub DueGrows : Type 0
+DueGrows =
+    (more before : List CodedUnit) → (tail : List ℕ) × (due (more ++ before) ≡ due before ++ tail)
+
+-- the pictures of the frames are those that the coded pictures decode to.
+abbrev pub FramesHavePictures : Type 0
+FramesHavePictures =
+    (units : List CodedUnit)
+    → pictures_in (frames_of units) ≡ pictures_of (map (λ u. u.picture) units)

@@ -1,41 +1,37 @@
 //! Decoded pictures as frames of a frame file; later with the certificates that they carry.
 //!
-//! Its promise: `write_picture` appends the frame of a picture, and nothing else. The frame file that the pictures
-//! of a stream decode to is `frame_file_of` in `specs/FrameFileOf.antt`.
+//! Its promise: `make_frame` leaves the sample bytes of the frame of a picture. The frame file that the units of a stream
+//! decode to is `frame_file_of` in `specs/FrameFileOf.antt`, and what of it may be written as its units come is `due`
+//! there; the laws say how the two are joined.
 #![tactic(auto)]
 
 ghost use Rattle.std.specs.Prelude.{◌≡◌, ◌*◌, length};
-ghost use Rattle.mv_ends.specs.Sends.{Sends};
 ghost use Rattle.rec_bury.specs.FrameBytes.{unrecorded};
-ghost use Rattle.y4m_frames.specs.FrameFile.{frame};
-ghost use Rattle.cert_picture.specs.FrameFileOf.{FrameFileGrows, FrameFileIsShown};
+ghost use Rattle.cert_picture.specs.FrameFileOf.{DueGrows, FileIsDueAndHeld, FramesHavePictures};
 
-use mv_ends::{Failed, Sink};
 use mv_planes::Picture;
 use rec_bury::write_unrecorded;
-use y4m_frames::write_frame;
 
-/// Writes the frame of a decoded picture, which carries no record. `spare` has two bytes for each sample of the
-/// picture, whatever they are. It fails only where the sink does, and then a proper front of the frame was written.
-pub fn write_picture<O: Sink>(
-    picture: &Picture,
-    spare: &mut [u8],
-    out: &mut O,
-) -> Result<(), Failed>
-    requires { length spare.old ≡ 2 * length picture.now.samples }
-    ensures { Sends O.written O.faults O.room out.old out.new
-        (frame (unrecorded picture.now)) result }
+/// Makes the sample bytes of the frame of a decoded picture, which carries no record. `to` has two bytes for each sample
+/// of the picture, whatever they are.
+pub fn make_frame(picture: &Picture, to: &mut Vec<u8>)
+    requires { length to.old.items ≡ 2 * length picture.now.samples }
+    ensures { to.new.items ≡ unrecorded picture.now }
 {
-    write_unrecorded(picture, spare);
-    write_frame(spare, out)
+    write_unrecorded(picture, to);
 }
 
-/// A frame file grows by the frame of an anchor that comes last.
-pub fn growth_law()
-    ensures { FrameFileGrows }
+/// The frame file of units is what is due as soon as they came, and then the frame that is held.
+pub fn file_law()
+    ensures { FileIsDueAndHeld }
 {}
 
-/// A frame file is what was shown while its pictures came, and then the anchor that is held.
-pub fn shown_law()
-    ensures { FrameFileIsShown }
+/// What is due to units stays at the front of what is due to more.
+pub fn due_law()
+    ensures { DueGrows }
+{}
+
+/// The pictures of frames are those that the units' coded pictures decode to.
+pub fn pictures_law()
+    ensures { FramesHavePictures }
 {}
