@@ -1,7 +1,8 @@
 mod Sends
-mod BuiltLaws
-mod Growth
-mod OutcomeLaws
-mod Exits
-mod Turns
 mod Keeps
+mod OutcomeLaws
+mod Growth
+mod Works
+mod Feeds
+mod Turns
+mod Exits

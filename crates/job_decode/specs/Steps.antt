@@ -1,118 +1,195 @@
 -- What each step of decoding answers. Nobody needs to believe it: it only carries proofs.
-use Rattle.std.specs.Prelude.{◌≡◌, ⊤, ◌≤◌, ℕ, ◌+◌, ◌-◌, ◌*◌, Bool, true, false, if◌then◌else◌, List, [], length, take, Option, None, Some, Result, Ok, Err}
+use Rattle.std.specs.Prelude.{◌≡◌, ◌⊎◌, ⊤, ◌≤◌, ◌<◌, ℕ, ◌+◌, ◌-◌, ◌*◌, Bool, true, false, if◌then◌else◌, List, [], ◌∷◌, ◌++◌, length, take, drop, is_some, Option, None, Some, Result, Ok, Err}
+use Rattle.std.specs.Option.{ForSome}
+use Rattle.std.specs.Io.KnownBytes.{Appends, Consumes, IsAtEnd, Keeps}
+use Rattle.mv_ends.specs.Ends.{Ends, Outcome}
+use Rattle.mv_ends.specs.Endings.{ending_of}
+use Rattle.mv_ends.specs.Moves.{Inputs, input_of, AppendsFront}
 use Rattle.mv_terms.specs.declared.status.Why.{Why}
-use Rattle.mv_terms.specs.declared.status.Why.TheVariants.{NotBuilt, TooLong}
 use Rattle.mv_terms.specs.declared.status.Status.{Status}
 use Rattle.mv_terms.specs.declared.status.Status.TheVariants as status
 use Rattle.mv_terms.specs.declared.head.Context.{Context}
-use Rattle.mv_terms.specs.declared.head.Head.{Head}
-use Rattle.mv_terms.specs.CodedPicture.{CodedPicture}
-use Rattle.mv_terms.specs.Ranges.{IsHead}
+use Rattle.mv_terms.specs.Order.{held, listed}
 use Rattle.mv_terms.specs.Rates.{frame_header_of}
 use Rattle.mv_terms.specs.UnitLists.{UnitLists}
-use Rattle.mv_heads.specs.declared.head_state.Heads.{Heads}
-use Rattle.mv_heads.specs.declared.head_state.Accepted.{Accepted}
-use Rattle.mv_heads.specs.HeadsInTurn.{after}
-use Rattle.mv_slices.specs.Slices.{Slices, RefusesSlices}
-use Rattle.mv_units.specs.Units.{Fed, StandsFor}
-use Rattle.mv_units.specs.Profile.{CodedUnit, Accepts}
-use Rattle.mv_planes.specs.Planes.{Planes}
-use Rattle.mv_recon.specs.Pictures.{intra_picture}
-use Rattle.y4m_frames.specs.FrameFile.{header_line}
-use Rattle.job_decode.specs.declared.workspace.Workspace.{Workspace}
-use Rattle.job_decode.specs.declared.unit.Stop.{Stop}
-use Rattle.job_decode.specs.declared.unit.Stop.TheVariants as stop
-use Rattle.job_decode.specs.Built.{is_built}
+use Rattle.mv_units.specs.Units.{Fed, StandsFor, units_within}
+use Rattle.mv_units.specs.Profile.{CodedUnit, Judged, JudgedTo, Accepts, Refuses, heads_in}
+use Rattle.mv_store.specs.declared.store.Shown.{Shown}
+use Rattle.mv_store.specs.declared.store.Shown.TheVariants.{Nothing, Previous, Current}
+use Rattle.mv_store.specs.Answers.{answer_to}
+use Rattle.mv_decode.specs.Stands.{StandsFor as IsDecoderOf}
+use Rattle.mv_decode.specs.Units.{FitsAsFirst}
+use Rattle.y4m_frames.specs.FrameFile.{frame, header_line}
+use Rattle.cert_picture.specs.FrameFileOf.{UnitFrame, pic_of_frame, frame_behind, frames_of, gives, due, held_frame}
+use Rattle.job_decode.specs.declared.work.Work.{Work}
+use Rattle.job_decode.specs.declared.work.Stop.{Stop}
+use Rattle.job_decode.specs.declared.work.Stop.TheVariants as stop
+use Rattle.job_decode.specs.declared.piece.Piece.{Piece}
+use Rattle.job_decode.specs.Stream.{IsOutcome, AppendsTaken, TakesNear, piece_limit}
 
--- the statuses of an input that isn't read to its end
-abbrev pub IsUnread : Status → Type 0
-IsUnread status.OpenFault = ⊤
-IsUnread status.ReadFault = ⊤
-IsUnread status.NoMemory = ⊤
-IsUnread (status.Unit count why) = (count ≡ 0) × (why ≡ TooLong)
-IsUnread other = ⊥
+-- ---- the units
 
--- the statuses of a stream whose bytes are read
-abbrev pub IsStreamStatus : Status → Type 0
-IsStreamStatus status.Done = ⊤
-IsStreamStatus (status.Unit count why) = ⊤
-IsStreamStatus status.WriteFault = ⊤
-IsStreamStatus status.NoMemory = ⊤
-IsStreamStatus other = ⊥
+-- the sample bytes of the frame that is held, where one is
+abbrev pub AreHeld : Option UnitFrame → List ℕ → Type 0
+AreHeld None bytes = ⊤
+AreHeld (Some f) bytes = bytes ≡ f.samples
 
--- a workspace has a place for each macroblock of its picture, and two bytes for each sample
-pub record IsWorkspace (workspace : Workspace) : Type 0 where
-  pub decisions : length workspace.decisions.items ≡ workspace.picture.mb_wide * workspace.picture.mb_high
-  pub levels : length workspace.levels.items ≡ workspace.picture.mb_wide * workspace.picture.mb_high
-  pub bytes : length workspace.frame.items ≡ 2 * length workspace.picture.samples
+-- The work stands for these accepted units, the latest first, and has room for a frame of their size.
+pub record IsWork (work : Work) (before : List CodedUnit) : Type 0 where
+  pub mb_wide : ℕ
+  pub mb_high : ℕ
+  pub decoder : IsDecoderOf mb_wide mb_high work.decoder before
+  pub holds : work.holds ≡ is_some (held pic_of_frame (frames_of before))
+  pub held_is : AreHeld (held pic_of_frame (frames_of before)) work.held.items
+  pub held_room : length work.held.items ≡ 768 * (mb_wide * mb_high)
+  pub next_room : length work.next.items ≡ 768 * (mb_wide * mb_high)
 
--- it is that of a picture of this size
-pub record HasRoom (workspace : Workspace) (mb_wide mb_high : ℕ) : Type 0 where
-  pub whole : IsWorkspace workspace
-  pub wide : workspace.picture.mb_wide ≡ mb_wide
-  pub high : workspace.picture.mb_high ≡ mb_high
+abbrev pub is_empty : List CodedUnit → Bool
+is_empty [] = true
+is_empty (u ∷ us) = false
 
--- Why a unit is refused so far: by its heads first, then by the kind of its picture, then by its slices.
-abbrev pub RefusedKind : Bool → Head → List ℕ → Why → Type 0
-RefusedKind true head slices why = RefusesSlices head slices why
-RefusedKind false head slices why = why ≡ NotBuilt
+-- before the first unit there is none
+abbrev pub WorkStands : Option Work → List CodedUnit → Type 0
+WorkStands None before = before ≡ []
+WorkStands (Some work) before = IsWork work before × (is_empty before ≡ false)
 
-abbrev pub RefusedSoFar : Result Accepted Why → List ℕ → Why → Type 0
-RefusedSoFar (Err because) slices why = why ≡ because
-RefusedSoFar (Ok accepted) slices why = RefusedKind (is_built accepted.head) accepted.head slices why
+-- work before the first unit, for pictures of this size
+pub record IsStarted (mb_wide mb_high : ℕ) (work : Work) : Type 0 where
+  pub stands : IsDecoderOf mb_wide mb_high work.decoder []
+  pub holds : work.holds ≡ false
+  pub held_room : length work.held.items ≡ 768 * (mb_wide * mb_high)
+  pub next_room : length work.next.items ≡ 768 * (mb_wide * mb_high)
 
--- the heads of a unit are accepted, with this head, and its picture is of a kind that is decoded
-pub record AcceptsHeads (before : Option Heads) (lists : UnitLists) (now : Option Heads) (head : Head) : Type 0 where
-  pub accepted : Accepted
-  pub heads : after before lists ≡ Ok accepted
-  pub built : is_built accepted.head ≡ true
-  pub head_is : head ≡ accepted.head
-  pub now_is : now ≡ Some accepted.heads
-  pub legal : IsHead head
+-- it may take this unit
+pub record MayTake (work : Work) (before : List CodedUnit) (lists : UnitLists) : Type 0 where
+  pub stands : IsWork work before
+  pub fits : FitsAsFirst stands.mb_wide stands.mb_high before lists
 
--- what the heads of a unit say, or the refusal, whatever its slices are
-abbrev pub ReadsHeads : Option Heads → UnitLists → Option Heads → Result Head Why → Type 0
-ReadsHeads before lists now (Ok head) = AcceptsHeads before lists now head
-ReadsHeads before lists now (Err why) = (slices : List ℕ) → RefusedSoFar (after before lists) slices why
-
--- the slices code a picture with this head, whose samples are these
-pub record Codes (head : Head) (slices : List ℕ) (samples : Planes) : Type 0 where
-  pub picture : CodedPicture
-  pub head_is : picture.head ≡ head
-  pub coded : Slices head slices picture.decisions picture.levels
-  pub samples_are : samples ≡ intra_picture picture
-
--- what is read of the slices of a picture: its samples, or the first refusal
-abbrev pub ReadsPicture : Head → List ℕ → Planes → Result (Unit {0}) Why → Type 0
-ReadsPicture head slices samples (Ok _) = Codes head slices samples
-ReadsPicture head slices samples (Err why) = RefusesSlices head slices why
-
--- A unit is accepted, of a kind that is decoded, and its picture has these samples.
-pub record AcceptsUnit (before : Option Heads) (lists : UnitLists) (now : Option Heads) (samples : Planes) : Type 0 where
+-- A unit was decoded, and its frame stands ready: what is shown now is as the display order says.
+pub record HasDecoded (old new : Work) (before : List CodedUnit) (lists : UnitLists)
+    (shown : Shown) : Type 0 where
   pub unit : CodedUnit
-  pub accepts : Accepts before lists unit
-  pub built : is_built unit.accepted.head ≡ true
-  pub heads : now ≡ Some unit.accepted.heads
-  pub samples_are : samples ≡ intra_picture unit.picture
+  pub accepts : Accepts (heads_in before) lists unit
+  pub mb_wide : ℕ
+  pub mb_high : ℕ
+  pub decoder : IsDecoderOf mb_wide mb_high new.decoder (unit ∷ before)
+  pub shown_is : shown ≡ answer_to pic_of_frame unit.picture.head.pic (frames_of before)
+  pub next : new.next.items ≡ (frame_behind (frames_of before) unit).samples
+  pub held : new.held ≡ old.held
+  pub holds : new.holds ≡ old.holds
+  pub held_room : length new.held.items ≡ 768 * (mb_wide * mb_high)
+  pub next_room : length new.next.items ≡ 768 * (mb_wide * mb_high)
 
--- What a unit behind others comes to: it is accepted; or it is refused, or memory is wanting, and then no heads are new.
-abbrev pub Decodes : Option Heads → UnitLists → Option Heads → Planes → Result (Unit {0}) Stop → Type 0
-Decodes before lists now samples (Ok _) = AcceptsUnit before lists now samples
-Decodes before lists now samples (Err (stop.Refused why)) = RefusedSoFar (after before lists) lists.slices why × (now ≡ before)
-Decodes before lists now samples (Err stop.NoMemory) = now ≡ before
+abbrev pub DecodesUnit : Work → Work → List CodedUnit → UnitLists → Result Shown Why → Type 0
+DecodesUnit old new before lists (Ok shown) = HasDecoded old new before lists shown
+DecodesUnit old new before lists (Err why) = Refuses (heads_in before) lists why × IsWork new before
 
--- what is written in front of the frame of a picture: the header line before the first one
+-- what is written in front of what a unit lets be shown: the header line before the first one
 abbrev pub heading : Bool → Option Context → List ℕ
 heading false context = []
 heading true None = []
 heading true (Some context) = header_line (frame_header_of context)
 
--- so much is to be done: each byte is fed and let go, and the end is told
-abbrev pub left_to_do : List ℕ → ℕ → Fed → ℕ
-left_to_do bytes at fed = 2 * (length bytes - at) + length fed.bytes + (if fed.closed then 0 else 1)
+-- the frame that is shown now
+abbrev pub shown_frame : Shown → List ℕ → List ℕ → List ℕ
+shown_frame Nothing held next = []
+shown_frame Previous held next = frame held
+shown_frame Current held next = frame next
 
--- A cutter was fed the first bytes of a stream, and all of them where it is closed.
-pub record IsFed (bytes : List ℕ) (at : ℕ) (fed : Fed) (let_go : List UnitLists) : Type 0 where
-  pub stands : StandsFor fed (take at bytes) let_go
-  pub within : at ≤ length bytes
-  pub all : fed.closed ≡ true → at ≡ length bytes
+-- the frame of an anchor is held from now on
+abbrev pub kept : Shown → Work → Work
+kept Current work = work
+kept other work = record work { held = work.next; next = work.held; holds = true }
+
+-- the frame that is held, where one is
+abbrev pub held_bytes : Option Work → List ℕ
+held_bytes None = []
+held_bytes (Some work) = (if work.holds then frame work.held.items else [])
+
+-- A unit is accepted, and what may be written as soon as it comes moves.
+pub record Takes (before : List CodedUnit) (lists : UnitLists)
+    (Moves : List ℕ → Type 0) : Type 0 where
+  pub unit : CodedUnit
+  pub accepts : Accepts (heads_in before) lists unit
+  pub moves : Moves (gives (frames_of before) (frame_behind (frames_of before) unit))
+
+pub record TakesWhole (Stands : List CodedUnit → Type 0) (before : List CodedUnit)
+    (lists : UnitLists) (old now : Option (List ℕ)) : Type 0 where
+  pub takes : Takes before lists (Appends old now)
+  pub stands : Stands (takes.unit ∷ before)
+
+-- What a unit behind others comes to, where something stands for the units that are accepted. Memory is wanting only before
+-- the first one.
+abbrev pub StepsTo : (List CodedUnit → Type 0) → List CodedUnit → UnitLists → Option (List ℕ)
+    → Option (List ℕ) → Result (Unit {0}) Stop → Type 0
+StepsTo Stands before lists old now (Ok _) = TakesWhole Stands before lists old now
+StepsTo Stands before lists old now (Err (stop.Refused why)) =
+    Refuses (heads_in before) lists why × Stands before × (now ≡ old)
+StepsTo Stands before lists old now (Err stop.NoMemory) = (before ≡ []) × (now ≡ old)
+StepsTo Stands before lists old now (Err stop.WriteFault) =
+    Takes before lists (AppendsFront old now)
+
+-- ---- the bytes
+
+-- the bytes of the piece that aren't fed yet
+abbrev pub unfed : Piece → List ℕ
+unfed piece = take (piece.end - piece.at) (drop piece.at piece.bytes.items)
+
+-- The piece has its bytes, and those of it and of the cutter are no more than a piece beyond what the stream may have.
+pub record Fits (piece : Piece) (fed : Fed) : Type 0 where
+  pub within : piece.at ≤ piece.end
+  pub inside : piece.end ≤ length piece.bytes.items
+  pub full : length piece.bytes.items ≡ piece_limit
+  pub room : length fed.bytes + (piece.end - piece.at) ≤ fed.room + piece_limit
+
+-- so much is to be done: each byte is read, fed and let go, and the end is told
+abbrev pub left_to_do : Piece → Fed → ℕ
+left_to_do piece fed =
+    3 * ((fed.room + piece_limit) - (length fed.bytes + (piece.end - piece.at)))
+    + (2 * (piece.end - piece.at) + (length fed.bytes + (if fed.closed then 0 else 1)))
+
+-- Of an input that is told these bytes were taken, and nothing is left where the cutter is closed. Less than a piece was
+-- taken behind the bytes that show the next unit whole.
+pub record IsTaken (input : List ℕ) (rest : Option (List ℕ)) (fed : Fed) (unfed past : List ℕ)
+    (count : ℕ) : Type 0 where
+  pub taken : Consumes (Some input) rest (past ++ unfed)
+  pub ended : fed.closed ≡ true → (unfed ≡ []) × IsAtEnd rest
+  pub near : (n : ℕ) → count < units_within input n → length (past ++ unfed) < n + piece_limit
+
+-- The cutter was fed the first bytes of the input of a name, and let these units go.
+pub record IsFed (named : Option Inputs) (name : List ℕ) (rest : Option (List ℕ)) (fed : Fed)
+    (unfed : List ℕ) (let_go : List UnitLists) : Type 0 where
+  pub past : List ℕ
+  pub stands : StandsFor fed past let_go
+  pub at_end : fed.closed ≡ true → IsAtEnd rest
+  pub told : ForSome named
+      (λ inputs. IsTaken (input_of inputs name) rest fed unfed past (length let_go))
+
+-- ---- how a stream ends
+
+-- the frame that is held is written, and the status is answered; or that write failed
+abbrev pub Finishes : Option Work → Status → Status → Option (List ℕ) → Option (List ℕ) → Type 0
+Finishes work answer result old new =
+    ((result ≡ answer)
+    ×
+    ((before : List CodedUnit) → WorkStands work before → Appends old new (held_frame before)))
+    ⊎ ((result ≡ status.WriteFault) × ((before : List CodedUnit) → WorkStands work before → AppendsFront old new (held_frame before)))
+
+-- the statuses of an input that was opened
+abbrev pub IsStreamStatus : Status → Type 0
+IsStreamStatus status.Done = ⊤
+IsStreamStatus (status.Unit count why) = ⊤
+IsStreamStatus status.ReadFault = ⊤
+IsStreamStatus status.WriteFault = ⊤
+IsStreamStatus status.NoMemory = ⊤
+IsStreamStatus other = ⊥
+
+pub record EndsStream (named : Option Inputs) (name : List ℕ) (rest old new : Option (List ℕ))
+    (result : Status) : Type 0 where
+  pub kind : IsStreamStatus result
+  pub ends : ForSome named
+      (λ inputs. (outcome : Outcome Status) × IsOutcome (input_of inputs name) outcome
+      × Ends outcome (ending_of result) old new)
+  pub done : result ≡ status.Done → IsAtEnd rest
+  pub read_part : result ≡ status.ReadFault → AppendsTaken name named rest old new
+  pub near : result ≡ status.WriteFault → TakesNear name named rest old new

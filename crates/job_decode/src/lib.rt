@@ -1,15 +1,14 @@
-//! The job of `decode`: from the bytes of a stream to the frame file that it decodes to.
+//! The job of `decode`: from the bytes of a stream, as they come, to the frame file that it decodes to.
 //!
 //! Its promise: `decode_job` ends as `IsOutcome` in `specs/Stream.antt` defines for the bytes of the named input, in
 //! status and output, but for want of memory and counted faults of its endpoints; `outcome_law` says that each stream
-//! has one outcome. Which units are decoded so far stands in `specs/Built.antt`. `specs/Steps.antt` only carries proofs.
+//! has one outcome. It writes each frame as soon as display order allows, and reads a piece more only where the bytes so
+//! far decide nothing: so the input is taken little further than what is written. `specs/Steps.antt` only carries proofs.
 #![tactic(auto)]
 
-mod frames;
-mod input;
+mod piece;
 mod stream;
-mod unit;
-mod workspace;
+mod work;
 
 ghost use Rattle.std.specs.Prelude.{◌≡◌};
 ghost use Rattle.std.specs.Option.{ForSome};
@@ -19,19 +18,18 @@ ghost use Rattle.mv_ends.specs.Ends.{Ends, Outcome};
 ghost use Rattle.mv_ends.specs.Moves.{input_of};
 ghost use Rattle.mv_ends.specs.Shelves.{KeepsShelf};
 ghost use Rattle.mv_ends.specs.Endings.{ending_of};
-ghost use Rattle.job_decode.specs.Stream.{AppendsTaken, EachHasOneOutcome, IsDecodeStatus, IsOutcome};
+ghost use Rattle.job_decode.specs.Stream.{AppendsTaken, EachHasOneOutcome, IsDecodeStatus, IsOutcome, TakesNear};
 
-use crate::input::read_input;
 use crate::stream::decode_stream;
 use mv_ends::{Shelf, Sink};
 use mv_terms::Status;
 use std::alloc::Global;
 
-/// Writes the frame file that the stream of this name decodes to: the frames of its pictures, up to the first unit that
-/// is refused.
+/// Writes the frame file that the stream of this name decodes to: the frames of its pictures in the order in which they
+/// are shown (H.262, 6.1.1.11), up to the first unit that is refused.
 ///
-/// I frame pictures without concealment vectors are decoded; a unit with another picture is `NotBuilt`. A stream has at
-/// most 16,777,216 bytes, a longer one is `TooLong`, and all of it is read before anything is written.
+/// The input may be of any length up to 2^44 bytes. It is read in pieces of at most 65,536 bytes, each when it is
+/// needed, and each frame is written as soon as it is shown.
 pub fn decode_job<S: Shelf, O: Sink>(
     alloc: Global,
     name: &str,
@@ -48,9 +46,15 @@ pub fn decode_job<S: Shelf, O: Sink>(
     ensures kind { IsDecodeStatus result }
     ensures unopened { result ≡ Status.OpenFault → Keeps (O.written out.old) (O.written out.new) }
 
-    // After a read fault no more stands on the output than what is due to the bytes that were taken.
+    // After a read fault exactly that stands on the output which is due to the bytes that were taken.
     ensures read_part { result ≡ Status.ReadFault
-        → AppendsTaken name.now (S.named shelf.old) (S.rest shelf.new) (O.written out.old) (O.written out.new) }
+        → AppendsTaken name.now (S.named shelf.old) (S.rest shelf.new) (O.written out.old)
+        (O.written out.new) }
+
+    // Where a write fails, the input was taken less than a piece behind what the next two frames need.
+    ensures reads_near { result ≡ Status.WriteFault
+        → TakesNear name.now (S.named shelf.old) (S.rest shelf.new) (O.written out.old)
+        (O.written out.new) }
 
     // A fault of an endpoint is answered only where it was counted in this call, for this very name.
     ensures open_fault { result ≡ Status.OpenFault
@@ -66,11 +70,10 @@ pub fn decode_job<S: Shelf, O: Sink>(
         (O.room out.old) (O.written out.old) (O.written out.new) }
     ensures kept { KeepsShelf S.named S.open_faults S.read_faults shelf.old shelf.new }
 {
-    let bytes = match read_input(alloc, name, shelf) {
-        Ok(bytes) => bytes,
-        Err(status) => return status,
-    };
-    decode_stream(alloc, &bytes, out)
+    match shelf.select(name) {
+        Ok(()) => decode_stream(alloc, name, shelf, out),
+        Err(_) => Status::OpenFault,
+    }
 }
 
 /// Each stream has one outcome.

@@ -1,91 +1,141 @@
-use Rattle.std.proofs.Common.{◌≡◌, refl, sym, ap, ◌∙◌, arith, rules, subst, length, take, Option, Err}
-use Rattle.std.specs.List.{length_refill}
-use Rattle.mv_ends.specs.Ends.{defined}
+use Rattle.std.proofs.Common.{◌≡◌, ◌+◌, ◌-◌, ℕ, List, [], take, drop, length, ap, sym, ◌∙◌, refl, arith, rules, subst, None, Err}
+use Rattle.mv_ends.proofs.Known.{Counts-trans}
 use Rattle.mv_terms.specs.declared.status.Why.{Why}
 use Rattle.mv_terms.specs.declared.status.Status.TheVariants as status
-use Rattle.mv_heads.specs.declared.head_state.Heads.{Heads}
-use Rattle.mv_units.specs.Units.{Fed}
-use Rattle.mv_terms.specs.UnitLists.{lent_unit}
-use Rattle.job_decode.specs.declared.unit.Stop.{Stop}
-use Rattle.job_decode.specs.Steps.{Decodes}
-use Rattle.mv_ends.proofs.Known.{Counts-trans}
+use Rattle.mv_terms.specs.UnitLists.{UnitLists, lent_unit}
 use Rattle.mv_slices.proofs.SliceLaws.{coded_or_refused}
-use Rattle.job_decode.proofs.Exits.{EndsBy, no_room}
-use Rattle.job_decode.proofs.Turns.{Turn, turn_starts, turn_feeds, turn_accepts, are_their_elements, done, cut_refused, unit_refused, out_of_memory, failed_write}
+use Rattle.mv_units.specs.declared.cutter.Cut.TheVariants as cuts
+use Rattle.mv_units.specs.Units.{Fed, Settles}
+use Rattle.cert_picture.specs.FrameFileOf.{due}
+use Rattle.job_decode.specs.declared.work.Stop.{Stop}
+use Rattle.job_decode.specs.Steps.{StepsTo, WorkStands, Finishes, unfed}
+use Rattle.job_decode.proofs.Works.{are_their_elements}
+use Rattle.job_decode.proofs.Feeds.{none_unfed, next_fits, next_counted, next_less}
+use Rattle.job_decode.proofs.Turns.{Turn, turn_starts, turn_advances, turn_accepts}
+use Rattle.job_decode.proofs.Exits.{nothing_yet, out_of_memory, unread, unit_refused, no_memory_yet, unit_unwritten, cut_settled, cut_ended, counts_kept, exit_counts, still_written}
 use Rattle.job_decode.proofs.stream.decode_stream.Goals as goal
 
 pub returns-in_default-clause-ends : goal.returns-in_default-clause-ends
-returns-in_default-clause-ends g c = no_room coded_or_refused c.args.bytes.now (g.O.Sink.written c.args.out.now)
+returns-in_default-clause-ends g c = nothing_yet coded_or_refused _ _ _ _
 
-pub returns-in_default-with_size-clause-ends : goal.returns-in_default-with_size-clause-ends
-returns-in_default-with_size-clause-ends g c = no_room coded_or_refused c.args.bytes.now (g.O.Sink.written c.args.out.now)
+pub returns-in_default-start-clause-ends : goal.returns-in_default-start-clause-ends
+returns-in_default-start-clause-ends g c = nothing_yet coded_or_refused _ _ _ _
 
 pub units-init : goal.units-init
-units-init g c = record {
-  turn = subst (λ (heads : Option Heads). Turn c.args.bytes.now 0 c.in-Ok.cutter heads 0 (g.O.Sink.written c.args.out.now) (g.O.Sink.written c.args.out.now)) (sym c.new-heads.ensures.value)
-      (turn_starts c.args.bytes.now c.in-Ok.cutter (g.O.Sink.written c.args.out.now) (ap (λ (fed : Fed). fed.closed) c.in-Ok.ensures.nothing) c.in-Ok.ensures.stands);
-  workspace = c.in-Ok-with_size.ensures.whole;
-  fits = let nothing : length c.in-Ok.cutter.bytes ≡ 0 = ap (λ (fed : Fed). length fed.bytes) c.in-Ok.ensures.nothing in omega (arith, nothing);
-  within = omega arith;
-  room = refl;
-  counts = search rules;
-}
+units-init g c =
+    let p = c.in-Ok.piece in
+    let at_is : p.at ≡ 0 = c.in-Ok.ensures.0 in
+    let end_is : p.end ≡ 0 = c.in-Ok.ensures.1 in
+    let full = c.in-Ok.ensures.2 in
+    let fed = c.in-Ok-start.cutter in
+    let nothing = c.in-Ok-start.ensures.nothing in
+    record {
+      turn = subst (λ (s : List ℕ). Turn (g.S.Shelf.named c.args.shelf.now) c.args.name.now (g.S.Shelf.rest c.args.shelf.now) fed s None 0 (g.O.Sink.written c.args.out.now) (g.O.Sink.written c.args.out.now))
+          (sym (none_unfed p.bytes.items p.at p.end (omega (arith, at_is, end_is))))
+          (turn_starts (g.S.Shelf.named c.args.shelf.now) c.args.name.now (g.S.Shelf.rest c.args.shelf.now) fed (g.O.Sink.written c.args.out.now) nothing c.in-Ok-start.ensures.stands c.requires.opened);
+      fits = record {
+        within = omega (arith, at_is, end_is);
+        inside = omega (arith, end_is);
+        full = full;
+        room = omega (arith, at_is, end_is, ap (λ (f : Fed). length f.bytes) nothing);
+      };
+      counted = omega (arith, ap (λ (f : Fed). f.room) nothing);
+      chosen = c.requires.chosen;
+      kept = record { inputs = refl; opens = λ name. omega arith; reads = λ name. omega arith };
+      room = refl;
+      counts = search rules;
+    }
 
-pub units-preserved-in-Ok-feed_next : goal.units-preserved-in-Ok-feed_next
-units-preserved-in-Ok-feed_next g c = record {
-  turn = turn_feeds c.args.bytes.now c.units.fed c.in-Ok-feed_next.now c.units.cutter c.feed_next.new.cutter c.units.heads c.units.count _ _ c.units.invariant.turn c.in-Ok-feed_next.ensures.fed;
-  workspace = c.units.invariant.workspace;
-  fits = let before = c.units.invariant.fits in let more = c.in-Ok-feed_next.ensures.fits in omega (arith, before, more);
-  within = (c.in-Ok-feed_next.ensures.fed c.units.invariant.turn.let_go c.units.invariant.turn.is_fed).within;
-  room = c.units.invariant.room;
-  counts = c.units.invariant.counts;
-}
-
-pub returns-in-Err-clause-ends : goal.returns-in-Err-clause-ends
-returns-in-Err-clause-ends g c =
-    out_of_memory coded_or_refused c.args.bytes.now c.units.fed c.units.cutter c.units.heads c.units.count _ _ c.requires c.units.invariant.turn
-
-pub decode_unit-requires-clause-elements : goal.decode_unit-requires-clause-elements
-decode_unit-requires-clause-elements g c =
-    are_their_elements c.unit-unit.result.slices.now
-    (c.unit-unit.ensures.slices (take c.units.fed c.args.bytes.now) c.units.invariant.turn.let_go c.units.invariant.turn.is_fed.stands)
-
-pub returns-in-Err-Refused-clause-ends : goal.returns-in-Err-Refused-clause-ends
-returns-in-Err-Refused-clause-ends g c =
-    let said = subst (λ (stop : Stop). Decodes c.units.heads (lent_unit c.unit-unit.result) c.decode_unit.new.heads c.decode_unit.new.workspace.picture (Err stop))
-    c.in-Err-Refused.field-0-is c.in-Err-Refused.ensures.decodes in
-    subst (λ (why : Why). EndsBy c.args.bytes.now (defined (status.Unit c.units.count why)) (g.O.Sink.written c.args.out.now) (g.O.Sink.written c.units.out)) (sym c.in-Err-Refused.why-is)
-    (unit_refused c.args.bytes.now c.units.fed c.units.cutter c.units.heads c.units.count (lent_unit c.unit-unit.result) _ _ c.in-Err-Refused.why c.requires c.units.invariant.turn
-    (sym c.in-Ready.ensures.value) c.unit-unit.ensures.parts said.0)
+pub returns-in-Err-ReadFault-clause-ends : goal.returns-in-Err-ReadFault-clause-ends
+returns-in-Err-ReadFault-clause-ends g c =
+    let turn = turn_advances (g.S.Shelf.named c.args.shelf.now) c.args.name.now (g.S.Shelf.rest c.units.shelf) (g.S.Shelf.rest c.advance.new.shelf) c.units.cutter c.advance.new.cutter (unfed c.units.piece) (unfed c.advance.new.piece) c.units.work c.units.count
+    (g.O.Sink.written c.args.out.now) (g.O.Sink.written c.units.out) c.units.invariant.turn (λ let_go so. c.in-Err-ReadFault.ensures.fed (g.S.Shelf.named c.args.shelf.now) c.args.name.now let_go so) in
+    let none = c.in-Err-ReadFault.ensures.none (ap Err c.in-Err-ReadFault.field-0-is) in
+    unread coded_or_refused (g.S.Shelf.named c.args.shelf.now) c.args.name.now (g.S.Shelf.rest c.advance.new.shelf) c.advance.new.cutter (unfed c.advance.new.piece) c.units.work c.units.count
+    (g.O.Sink.written c.args.out.now) (g.O.Sink.written c.units.out) turn
+    (subst (λ (f : Fed). Settles f cuts.More) (sym none.1) c.in-More.ensures.settles) none.0
 
 pub returns-in-Err-NoMemory-clause-ends : goal.returns-in-Err-NoMemory-clause-ends
 returns-in-Err-NoMemory-clause-ends g c =
-    out_of_memory coded_or_refused c.args.bytes.now c.units.fed c.units.cutter c.units.heads c.units.count _ _ c.requires c.units.invariant.turn
+    out_of_memory coded_or_refused (g.S.Shelf.named c.args.shelf.now) c.args.name.now (g.S.Shelf.rest c.units.shelf) (g.S.Shelf.rest c.advance.new.shelf) c.units.cutter (unfed c.units.piece) c.units.work c.units.count
+    (g.O.Sink.written c.args.out.now) (g.O.Sink.written c.units.out) c.units.invariant.turn
 
-pub returns-in-Err-write_next-clause-ends : goal.returns-in-Err-write_next-clause-ends
-returns-in-Err-write_next-clause-ends g c =
-    failed_write coded_or_refused c.args.bytes.now c.units.fed c.units.cutter c.units.heads c.decode_unit.new.heads c.units.count (lent_unit c.unit-unit.result) c.decode_unit.new.workspace.picture _ _ _ c.requires c.units.invariant.turn
-    (sym c.in-Ready.ensures.value) c.unit-unit.ensures.parts c.in-Ok-decode_unit.ensures.decodes c.in-Err-write_next.ensures.front
+pub take_unit-requires-clause-elements : goal.take_unit-requires-clause-elements
+take_unit-requires-clause-elements g c =
+    are_their_elements c.unit-unit.result.slices.now
+    (c.unit-unit.ensures.slices c.units.invariant.turn.is_fed.past c.units.invariant.turn.let_go c.units.invariant.turn.is_fed.stands)
+
+pub returns-in-Err-Refused-clause-ends : goal.returns-in-Err-Refused-clause-ends
+returns-in-Err-Refused-clause-ends g c =
+    let turn = c.units.invariant.turn in
+    let said = subst (λ (stop : Stop). StepsTo (λ units. WorkStands c.take_unit.new.work units) turn.before (lent_unit c.unit-unit.result) (g.O.Sink.written c.units.out) (g.O.Sink.written c.take_unit.new.out) (Err stop))
+    c.in-Err-Refused.field-0-is (c.in-Err-Refused.ensures.steps turn.before turn.stands) in
+    unit_refused (g.S.Shelf.named c.args.shelf.now) c.args.name.now (g.S.Shelf.rest c.units.shelf) c.units.cutter (unfed c.units.piece) c.units.work c.take_unit.new.work c.units.count (lent_unit c.unit-unit.result) c.finish.result
+    (g.O.Sink.written c.args.out.now) (g.O.Sink.written c.units.out) (g.O.Sink.written c.take_unit.new.out) (g.O.Sink.written c.finish.new.out) c.in-Err-Refused.why turn
+    (sym c.in-Ready.ensures.value) c.unit-unit.ensures.parts said.0 said.1 said.2
+    (subst (λ (why : Why). Finishes c.take_unit.new.work (status.Unit c.units.count why) c.finish.result (g.O.Sink.written c.take_unit.new.out) (g.O.Sink.written c.finish.new.out)) c.in-Err-Refused.why-is c.finish.ensures.ends)
+
+pub returns-in-Err-Refused-clause-count : goal.returns-in-Err-Refused-clause-count
+returns-in-Err-Refused-clause-count g c =
+    let turn = c.units.invariant.turn in
+    let said = subst (λ (stop : Stop). StepsTo (λ units. WorkStands c.take_unit.new.work units) turn.before (lent_unit c.unit-unit.result) (g.O.Sink.written c.units.out) (g.O.Sink.written c.take_unit.new.out) (Err stop))
+    c.in-Err-Refused.field-0-is (c.in-Err-Refused.ensures.steps turn.before turn.stands) in
+    exit_counts _ _ _ _ _ (g.O.Sink.written c.args.out.now) (g.O.Sink.written c.take_unit.new.out) (g.O.Sink.written c.finish.new.out) (due turn.before) c.take_unit.new.work turn.before _ c.finish.result
+    (counts_kept _ _ _ _ _ (g.O.Sink.written c.args.out.now) (g.O.Sink.written c.units.out) (g.O.Sink.written c.take_unit.new.out) (due turn.before) c.units.invariant.counts c.units.invariant.room c.in-Err-Refused.ensures.count turn.written said.2)
+    (c.in-Err-Refused.ensures.same_room ∙ c.units.invariant.room) c.finish.ensures.count (still_written _ _ _ _ turn.written said.2) said.1 c.finish.ensures.ends
+
+pub returns-in-Err-NoMemory-take_unit-clause-ends : goal.returns-in-Err-NoMemory-take_unit-clause-ends
+returns-in-Err-NoMemory-take_unit-clause-ends g c =
+    let turn = c.units.invariant.turn in
+    let said = subst (λ (stop : Stop). StepsTo (λ units. WorkStands c.take_unit.new.work units) turn.before (lent_unit c.unit-unit.result) (g.O.Sink.written c.units.out) (g.O.Sink.written c.take_unit.new.out) (Err stop))
+    c.in-Err-NoMemory-take_unit.field-0-is (c.in-Err-NoMemory-take_unit.ensures.steps turn.before turn.stands) in
+    no_memory_yet coded_or_refused (g.S.Shelf.named c.args.shelf.now) c.args.name.now (g.S.Shelf.rest c.units.shelf) c.units.cutter (unfed c.units.piece) c.units.work c.units.count
+    (g.O.Sink.written c.args.out.now) (g.O.Sink.written c.units.out) (g.O.Sink.written c.take_unit.new.out) turn said.0 said.1
+
+pub returns-in-Err-WriteFault-clause-ends : goal.returns-in-Err-WriteFault-clause-ends
+returns-in-Err-WriteFault-clause-ends g c =
+    let turn = c.units.invariant.turn in
+    let said = subst (λ (stop : Stop). StepsTo (λ units. WorkStands c.take_unit.new.work units) turn.before (lent_unit c.unit-unit.result) (g.O.Sink.written c.units.out) (g.O.Sink.written c.take_unit.new.out) (Err stop))
+    c.in-Err-WriteFault.field-0-is (c.in-Err-WriteFault.ensures.steps turn.before turn.stands) in
+    unit_unwritten coded_or_refused (g.S.Shelf.named c.args.shelf.now) c.args.name.now (g.S.Shelf.rest c.units.shelf) c.units.cutter (unfed c.units.piece) c.units.work c.units.count (lent_unit c.unit-unit.result)
+    (g.O.Sink.written c.args.out.now) (g.O.Sink.written c.units.out) (g.O.Sink.written c.take_unit.new.out) turn (sym c.in-Ready.ensures.value) c.unit-unit.ensures.parts said
+
+pub units-smaller : goal.units-smaller
+units-smaller g c = next_less c.units.cutter c.next.new.self c.units.piece (sym c.in-Ready.ensures.value) c.next.ensures.left
 
 pub units-preserved : goal.units-preserved
-units-preserved g c = record {
-  turn = turn_accepts c.args.bytes.now c.units.fed c.units.cutter c.next.new.self c.units.heads c.decode_unit.new.heads c.units.count (lent_unit c.unit-unit.result) c.decode_unit.new.workspace.picture _ _ _ c.units.invariant.turn
-      (sym c.in-Ready.ensures.value) c.next.ensures.left c.unit-unit.ensures.parts c.in-Ok-decode_unit.ensures.decodes c.in-Ok-write_next.ensures.sent;
-  workspace =
-      let room = c.in-Ok-decode_unit.ensures.workspace in
-      let frame = c.decode_unit.new.workspace.frame in
-      let len : frame.len ≡ length frame.items = omega (arith, frame.ok.0) in
-      record { decisions = room.decisions; levels = room.levels; bytes = omega (arith, len, room.bytes, length_refill frame.len frame.items c.write_next.new.bytes len) };
-  fits = let before = c.units.invariant.fits in let shorter = c.next.ensures.shorter in omega (arith, before, shorter);
-  within = c.units.invariant.within;
-  room = c.in-Ok-write_next.ensures.same_room ∙ c.units.invariant.room;
-  counts = Counts-trans _ _ _ _ _ _ _ _ _ _ c.units.invariant.counts c.units.invariant.room c.in-Ok-write_next.ensures.count c.units.invariant.turn.decoded.written c.in-Ok-write_next.ensures.sent;
-}
+units-preserved g c =
+    let turn = c.units.invariant.turn in
+    let w = c.in-Ok-take_unit.ensures.steps turn.before turn.stands in
+    record {
+      turn = turn_accepts (g.S.Shelf.named c.args.shelf.now) c.args.name.now (g.S.Shelf.rest c.units.shelf) c.units.cutter c.next.new.self (unfed c.units.piece) c.units.work c.take_unit.new.work c.units.count (lent_unit c.unit-unit.result)
+          (g.O.Sink.written c.args.out.now) (g.O.Sink.written c.units.out) (g.O.Sink.written c.take_unit.new.out) turn (sym c.in-Ready.ensures.value) c.next.ensures.left c.unit-unit.ensures.parts w;
+      fits = next_fits c.units.cutter c.next.new.self c.units.piece (sym c.in-Ready.ensures.value) c.next.ensures.left c.units.invariant.fits;
+      counted = next_counted c.units.cutter c.next.new.self c.units.count (sym c.in-Ready.ensures.value) c.next.ensures.left c.units.invariant.counted;
+      chosen = c.units.invariant.chosen;
+      kept = c.units.invariant.kept;
+      room = c.in-Ok-take_unit.ensures.same_room ∙ c.units.invariant.room;
+      counts = Counts-trans _ _ _ _ _ _ _ _ _ _ c.units.invariant.counts c.units.invariant.room c.in-Ok-take_unit.ensures.count turn.written w.takes.moves;
+    }
 
 pub returns-in-Refused-clause-ends : goal.returns-in-Refused-clause-ends
 returns-in-Refused-clause-ends g c =
-    cut_refused c.args.bytes.now c.units.fed c.units.cutter c.units.heads c.units.count _ _ c.in-Refused.why c.requires c.units.invariant.turn c.in-Refused.ensures.settles
+    cut_settled (g.S.Shelf.named c.args.shelf.now) c.args.name.now (g.S.Shelf.rest c.units.shelf) c.units.cutter (unfed c.units.piece) c.units.work c.units.count c.finish-in-Refused.result
+    (g.O.Sink.written c.args.out.now) (g.O.Sink.written c.units.out) (g.O.Sink.written c.finish-in-Refused.new.out) c.in-Refused.why c.units.invariant.turn c.in-Refused.ensures.settles c.finish-in-Refused.ensures.ends
+
+pub returns-in-Refused-clause-count : goal.returns-in-Refused-clause-count
+returns-in-Refused-clause-count g c =
+    let turn = c.units.invariant.turn in
+    exit_counts _ _ _ _ _ (g.O.Sink.written c.args.out.now) (g.O.Sink.written c.units.out) (g.O.Sink.written c.finish-in-Refused.new.out) (due turn.before) c.units.work turn.before _ c.finish-in-Refused.result
+    c.units.invariant.counts c.units.invariant.room c.finish-in-Refused.ensures.count turn.written turn.stands c.finish-in-Refused.ensures.ends
 
 pub returns-in-Ended-clause-ends : goal.returns-in-Ended-clause-ends
 returns-in-Ended-clause-ends g c =
-    done c.args.bytes.now c.units.fed c.units.cutter c.units.heads c.units.count _ _ c.requires c.units.invariant.turn c.in-Ended.ensures.settles
+    cut_ended (g.S.Shelf.named c.args.shelf.now) c.args.name.now (g.S.Shelf.rest c.units.shelf) c.units.cutter (unfed c.units.piece) c.units.work c.units.count c.finish-in-Ended.result
+    (g.O.Sink.written c.args.out.now) (g.O.Sink.written c.units.out) (g.O.Sink.written c.finish-in-Ended.new.out) c.units.invariant.turn (sym c.in-Ended.ensures.value) c.in-Ended.ensures.settles c.finish-in-Ended.ensures.ends
+
+pub returns-in-Ended-clause-count : goal.returns-in-Ended-clause-count
+returns-in-Ended-clause-count g c =
+    let turn = c.units.invariant.turn in
+    exit_counts _ _ _ _ _ (g.O.Sink.written c.args.out.now) (g.O.Sink.written c.units.out) (g.O.Sink.written c.finish-in-Ended.new.out) (due turn.before) c.units.work turn.before _ c.finish-in-Ended.result
+    c.units.invariant.counts c.units.invariant.room c.finish-in-Ended.ensures.count turn.written turn.stands c.finish-in-Ended.ensures.ends

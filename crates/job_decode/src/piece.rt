@@ -1,0 +1,88 @@
+//! The bytes of a stream: read a piece at a time, and fed to the cutter.
+ghost use Rattle.std.specs.Prelude.{◌≡◌, ◌<◌, List, [], ℕ, Option, IfOk, OnOk, IsErrOf, length};
+ghost use Rattle.mv_units.specs.Units.{cut_of};
+ghost use Rattle.mv_ends.specs.Causes.{RoseForSelected};
+ghost use Rattle.mv_ends.specs.Moves.{Inputs};
+ghost use Rattle.mv_ends.specs.Shelves.{KeepsShelf};
+ghost use Rattle.mv_terms.specs.UnitLists.{UnitLists};
+ghost use Rattle.job_decode.specs.Steps.{Fits, IsFed, left_to_do, unfed};
+ghost use Rattle.job_decode.specs.Stream.{piece_limit};
+
+use mv_ends::Shelf;
+use mv_terms::NoMemory;
+use mv_units::{Cut, Cutter};
+use std::alloc::Global;
+
+/// The most bytes of an input that are read at once.
+const PIECE_LIMIT: usize = 65_536;
+
+/// What keeps a cutter from being brought on.
+#[derive(Clone, Copy, Debug, PartialEq, Eq)]
+pub(crate) enum Halt {
+    NoMemory,
+    ReadFault,
+}
+
+/// The bytes that were read last, up to `end`; those from `at` on aren't fed yet.
+#[derive(Drop)]
+pub(crate) struct Piece {
+    pub(crate) bytes: Vec<u8>,
+    pub(crate) at: usize,
+    pub(crate) end: usize,
+}
+
+impl Piece {
+    /// One of which nothing was read.
+    pub(crate) fn start(alloc: Global) -> Result<Piece, NoMemory>
+        ensures { IfOk result
+            (λ piece. (piece.at ≡ 0) × (piece.end ≡ 0) × (length piece.bytes.items ≡ piece_limit)) }
+    {
+        Ok(Piece {
+            bytes: vec![in alloc; 0; PIECE_LIMIT].map_err(|_| NoMemory)?,
+            at: 0,
+            end: 0,
+        })
+    }
+}
+
+/// Brings the cutter on, where it waits for bytes: feeds it what is left of the piece, or reads the next piece where all
+/// of it is fed, or tells it the end.
+pub(crate) fn advance<S: Shelf>(
+    shelf: &mut S,
+    piece: &mut Piece,
+    cutter: &mut Cutter,
+) -> Result<(), Halt>
+    requires more { cut_of cutter.old ≡ Cut.More }
+    requires fits { Fits piece.old cutter.old }
+    ensures fed { (named : Option Inputs) (name : List ℕ) (let_go : List UnitLists)
+        → IsFed named name (S.rest shelf.old) cutter.old (unfed piece.old) let_go
+        → IsFed named name (S.rest shelf.new) cutter.new (unfed piece.new) let_go }
+    ensures fits { OnOk result (Fits piece.new cutter.new) }
+    ensures room { cutter.new.room ≡ cutter.old.room }
+    ensures less { OnOk result (left_to_do piece.new cutter.new < left_to_do piece.old cutter.old) }
+    ensures none { IsErrOf result Halt.ReadFault → (unfed piece.new ≡ [])
+        × (cutter.new ≡ cutter.old) }
+    ensures failed { IsErrOf result Halt.ReadFault
+        → RoseForSelected (S.selected shelf.old) (S.read_faults shelf.old)
+        (S.read_faults shelf.new) }
+    ensures chosen { S.selected shelf.new ≡ S.selected shelf.old }
+    ensures kept { KeepsShelf S.named S.open_faults S.read_faults shelf.old shelf.new }
+{
+    if piece.at < piece.end {
+        match cutter.feed(&piece.bytes[piece.at..piece.end]) {
+            Ok(count) => piece.at += count,
+            Err(_) => return Err(Halt::NoMemory),
+        }
+        return Ok(());
+    }
+    let count = match shelf.read(&mut piece.bytes) {
+        Ok(count) => count,
+        Err(_) => return Err(Halt::ReadFault),
+    };
+    piece.at = 0;
+    piece.end = count;
+    if count == 0 {
+        cutter.close();
+    }
+    Ok(())
+}
