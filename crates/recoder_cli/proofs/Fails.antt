@@ -2,16 +2,20 @@
 use Rattle.std.proofs.Common.{◌≡◌, ℕ, List, Option, sym, subst, ◌⊎◌, inl, inr}
 use Rattle.mv_ends.specs.Causes.{Rose}
 use Rattle.mv_ends.specs.Moves.{Inputs}
-use Rattle.job_decode.specs.Stream.{AppendsTaken}
+use Rattle.job_decode.specs.Stream.{AppendsTaken, TakesNear}
 use Rattle.recoder_cli.specs.Words.{Form, decode, cut}
 use Rattle.cut_list.specs.Cut.{FailsToOpenCut, FailsToReadCut}
-use Rattle.recoder_cli.specs.Outcomes.{FailsToOpen, FailsToRead}
+use Rattle.recoder_cli.specs.Outcomes.{FailsToOpen, FailsToRead, FailsToWrite}
 
 -- so many bytes of the input that `decode` names were taken
 pub decode_fails_to_read : (form : Form) (name : List ℕ) (named : Option Inputs) (rest : Option (List ℕ)) (before now : List ℕ → ℕ) (old new : Option (List ℕ))
     → form ≡ decode name → Rose (before name) (now name) → AppendsTaken name named rest old new → FailsToRead form named rest before now old new
 decode_fails_to_read form name named rest before now old new is rose part =
     subst (λ (f : Form). FailsToRead f named rest before now old new) (sym is) (rose, part)
+
+-- it was taken no further
+pub decode_fails_to_write : (form : Form) (name : List ℕ) (named : Option Inputs) (rest old new : Option (List ℕ)) → form ≡ decode name → TakesNear name named rest old new → FailsToWrite form named rest old new
+decode_fails_to_write form name named rest old new is near = subst (λ (f : Form). FailsToWrite f named rest old new) (sym is) near
 
 -- the faults of some name rose
 pub opening_rose : (form : Form) (named : Option Inputs) (before now : List ℕ → ℕ) (old new : Option (List ℕ)) → FailsToOpen form named before now old new → (name : List ℕ) × Rose (before name) (now name)

@@ -6,7 +6,7 @@ use Rattle.mv_ends.specs.Causes.{Rose}
 use Rattle.mv_ends.specs.Ends.{Outcome}
 use Rattle.mv_ends.specs.Moves.{Inputs, input_of}
 use Rattle.mv_terms.specs.declared.status.Status.{Status}
-use Rattle.job_decode.specs.Stream.{IsOutcome, IsDecodeStatus, AppendsTaken}
+use Rattle.job_decode.specs.Stream.{IsOutcome, IsDecodeStatus, AppendsTaken, TakesNear}
 use Rattle.cut_list.specs.Cut.{FailsToOpenCut, FailsToReadCut, IsCutStatus, cut_outcome}
 use Rattle.recoder_cli.specs.Words.{Form, decode, cut}
 
@@ -26,13 +26,21 @@ IsDoneOver (decode name) rest = IsAtEnd rest
 IsDoneOver (cut list) rest = ⊤
 
 -- An input of a command couldn't be opened: the faults of its name rose, and so much is written.
-abbrev pub FailsToOpen : Form → Option Inputs → (List ℕ → ℕ) → (List ℕ → ℕ) → Option (List ℕ) → Option (List ℕ) → Type 0
+abbrev pub FailsToOpen : Form → Option Inputs → (List ℕ → ℕ) → (List ℕ → ℕ) → Option (List ℕ)
+    → Option (List ℕ) → Type 0
 FailsToOpen (decode name) named before now old new = Rose (before name) (now name) × Keeps old new
 FailsToOpen (cut list) named before now old new = FailsToOpenCut list named before now old new
 
--- An input of a command couldn't be read: the faults of its name rose, and no more is written than what is due to the
--- bytes that were taken.
-abbrev pub FailsToRead : Form → Option Inputs → Option (List ℕ) → (List ℕ → ℕ) → (List ℕ → ℕ) → Option (List ℕ) → Option (List ℕ) → Type 0
+-- An input of a command couldn't be read: the faults of its name rose, and what is written is known. After `decode` it is
+-- just what is due to the bytes that were taken.
+abbrev pub FailsToRead : Form → Option Inputs → Option (List ℕ) → (List ℕ → ℕ) → (List ℕ → ℕ)
+    → Option (List ℕ) → Option (List ℕ) → Type 0
 FailsToRead (decode name) named rest before now old new =
     Rose (before name) (now name) × AppendsTaken name named rest old new
 FailsToRead (cut list) named rest before now old new = FailsToReadCut list named before now old new
+
+-- The output couldn't be written: `decode` hasn't taken its input far ahead of what was.
+abbrev pub FailsToWrite : Form → Option Inputs → Option (List ℕ) → Option (List ℕ) → Option (List ℕ)
+    → Type 0
+FailsToWrite (decode name) named rest old new = TakesNear name named rest old new
+FailsToWrite (cut list) named rest old new = ⊤

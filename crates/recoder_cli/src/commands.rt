@@ -6,7 +6,7 @@ ghost use Rattle.mv_ends.specs.Shelves.{KeepsShelf};
 ghost use Rattle.mv_ends.specs.Ends.{Ends, Outcome};
 ghost use Rattle.mv_ends.specs.Endings.{ending_of};
 ghost use Rattle.recoder_cli.specs.Commands.{form_given};
-ghost use Rattle.recoder_cli.specs.Outcomes.{FailsToOpen, FailsToRead, IsDoneOver, IsOutcomeOf, IsStatusOf};
+ghost use Rattle.recoder_cli.specs.Outcomes.{FailsToOpen, FailsToRead, FailsToWrite, IsDoneOver, IsOutcomeOf, IsStatusOf};
 
 use crate::words::Command;
 use cut_list::cut_job;
@@ -28,7 +28,8 @@ pub fn perform<S: Shelf, O: Sink>(
     ensures done { result ≡ Status.Done → IsDoneOver (form_given command.now) (S.rest shelf.new) }
     ensures kind { IsStatusOf (form_given command.now) result }
     ensures form { result ≢ Status.Words }
-    ensures open_fault { result ≡ Status.OpenFault → FailsToOpen (form_given command.now) (S.named shelf.old)
+    ensures open_fault { result ≡ Status.OpenFault
+        → FailsToOpen (form_given command.now) (S.named shelf.old)
         (S.open_faults shelf.old) (S.open_faults shelf.new) (O.written out.old) (O.written out.new) }
     ensures read_fault { result ≡ Status.ReadFault
         → FailsToRead (form_given command.now) (S.named shelf.old) (S.rest shelf.new)
@@ -36,6 +37,8 @@ pub fn perform<S: Shelf, O: Sink>(
     ensures write_fault { result ≡ Status.WriteFault
         → FailedWrite (O.faults out.old) (O.faults out.new)
         (O.room out.old) (O.written out.old) (O.written out.new) }
+    ensures unwritten { result ≡ Status.WriteFault → FailsToWrite (form_given command.now)
+        (S.named shelf.old) (S.rest shelf.new) (O.written out.old) (O.written out.new) }
     ensures same_room { O.room out.new ≡ O.room out.old }
     ensures count { Counts (O.faults out.old) (O.faults out.new)
         (O.room out.old) (O.written out.old) (O.written out.new) }

@@ -22,7 +22,7 @@ ghost use Rattle.mv_ends.specs.Ends.{Ends, Outcome};
 ghost use Rattle.mv_terms.specs.Texts.{line_of};
 ghost use Rattle.mv_ends.specs.Endings.{ending_of};
 ghost use Rattle.recoder_cli.specs.Words.{form_of, texts};
-ghost use Rattle.recoder_cli.specs.Outcomes.{FailsToOpen, FailsToRead, IsDoneOver, IsOutcomeOf, IsStatusOf};
+ghost use Rattle.recoder_cli.specs.Outcomes.{FailsToOpen, FailsToRead, FailsToWrite, IsDoneOver, IsOutcomeOf, IsStatusOf};
 ghost use Rattle.recoder_cli.specs.Said.{IsSaid};
 
 pub use clean::run_clean;
@@ -44,10 +44,12 @@ pub fn run<S: Shelf, O: Sink, M: Sink>(
 ) -> Status
     // Where the inputs are told, a command ends as it is defined, but for want of memory and for the faults below; and
     // where no count of faults rose, it ends so but for want of memory.
-    ensures ends { ForSome (form_of (texts words.now)) (λ form. ForSome (S.named shelf.old) (λ inputs.
+    ensures ends { ForSome (form_of (texts words.now))
+        (λ form. ForSome (S.named shelf.old) (λ inputs.
         (outcome : Outcome Status) × IsOutcomeOf form inputs outcome
         × Ends outcome (ending_of result) (O.written out.old) (O.written out.new))) }
-    ensures complete { ForSome (form_of (texts words.now)) (λ form. ForSome (S.named shelf.old) (λ inputs.
+    ensures complete { ForSome (form_of (texts words.now))
+        (λ form. ForSome (S.named shelf.old) (λ inputs.
         NoneRose
         (record { opens = S.open_faults shelf.old; reads = S.read_faults shelf.old; writes = O.faults out.old })
         (record { opens = S.open_faults shelf.new; reads = S.read_faults shelf.new; writes = O.faults out.new })
@@ -73,6 +75,8 @@ pub fn run<S: Shelf, O: Sink, M: Sink>(
     ensures write_fault { result ≡ Status.WriteFault
         → FailedWrite (O.faults out.old) (O.faults out.new)
         (O.room out.old) (O.written out.old) (O.written out.new) }
+    ensures unwritten { result ≡ Status.WriteFault → ForSome (form_of (texts words.now)) (λ form.
+        FailsToWrite form (S.named shelf.old) (S.rest shelf.new) (O.written out.old) (O.written out.new)) }
 
     // The line of the status is said, as far as no write to `say` fails.
     ensures said { IsSaid M.written M.faults M.room say.old say.new (line_of result) }

@@ -67,7 +67,8 @@ fn line_pieces<'a>(fault: &LineFault, digits: &'a mut Buffer) -> (&'a str, &'a s
 
 /// Says a frame file's fault.
 fn say_frames<M: Sink>(say: &mut M, fault: &FrameFault)
-    ensures said { IsSaid M.written M.faults M.room say.old say.new (line_of (Status.Frames fault.now)) }
+    ensures said { IsSaid M.written M.faults M.room say.old say.new
+        (line_of (Status.Frames fault.now)) }
     ensures same_room { M.room say.new ≡ M.room say.old }
     ensures count { Counts (M.faults say.old) (M.faults say.new)
         (M.room say.old) (M.written say.old) (M.written say.new) }
@@ -87,7 +88,8 @@ fn say_frames<M: Sink>(say: &mut M, fault: &FrameFault)
 
 /// Says a reason, behind the number of its unit.
 fn say_unit<M: Sink>(say: &mut M, unit: u64, why: &Why)
-    ensures said { IsSaid M.written M.faults M.room say.old say.new (line_of (Status.Unit unit why.now)) }
+    ensures said { IsSaid M.written M.faults M.room say.old say.new
+        (line_of (Status.Unit unit why.now)) }
     ensures same_room { M.room say.new ≡ M.room say.old }
     ensures count { Counts (M.faults say.old) (M.faults say.new)
         (M.room say.old) (M.written say.old) (M.written say.new) }
@@ -114,7 +116,8 @@ fn say_unit<M: Sink>(say: &mut M, unit: u64, why: &Why)
 
 /// Says a line's fault, behind the number of the line.
 fn say_line<M: Sink>(say: &mut M, line: u32, fault: &LineFault)
-    ensures said { IsSaid M.written M.faults M.room say.old say.new (line_of (Status.Line line fault.now)) }
+    ensures said { IsSaid M.written M.faults M.room say.old say.new
+        (line_of (Status.Line line fault.now)) }
     ensures same_room { M.room say.new ≡ M.room say.old }
     ensures count { Counts (M.faults say.old) (M.faults say.new)
         (M.room say.old) (M.written say.old) (M.written say.new) }

@@ -1,7 +1,9 @@
 //! Runs over endpoints in memory: what each stream gives, and what stands where an endpoint fails.
+mod cut;
+
 use crate::{run, run_clean};
-use mv_ends::{CleanShelf, CleanSink, MemShelf, MemSink};
-use mv_terms::{LineFault, Status, Why};
+use mv_ends::{CleanShelf, CleanSink, MemShelf, MemSink, Shelf};
+use mv_terms::{Status, Why};
 use std::alloc::{AllocError, Global};
 use std::process::Abort;
 use std::test::Fail;
@@ -36,11 +38,17 @@ const PREDICTED: &[u8] = &[
     0x00, 0x00, 0x01, 0xB5, 0x8F, 0xFF, 0xF3, 0x41, 0x80,
 ];
 
-// A P picture whose vectors may be read, and an I picture with concealment vectors.
+// A P picture whose vectors may be read, a B picture, and an I picture with concealment vectors.
 #[rattlefmt::skip]
 const LEGALLY_PREDICTED: &[u8] = &[
     0x00, 0x00, 0x01, 0x00, 0x00, 0x17, 0xFF, 0xF8,
     0x00, 0x00, 0x01, 0xB5, 0x81, 0x1F, 0xF3, 0x41, 0x80,
+];
+
+#[rattlefmt::skip]
+const BETWEEN: &[u8] = &[
+    0x00, 0x00, 0x01, 0x00, 0x00, 0x1F, 0xFF, 0xF8,
+    0x00, 0x00, 0x01, 0xB5, 0x81, 0x11, 0x13, 0x41, 0x80,
 ];
 
 #[rattlefmt::skip]
@@ -56,17 +64,52 @@ const SLICE: &[u8] = &[
     0xE5, 0x29, 0x48, 0x8B, 0x94, 0xA5, 0x22, 0x2E, 0x52, 0x94, 0x88, 0x80,
 ];
 
-// Parts of a stream, each followed by the slices of a grey picture, and what stands behind them.
-fn stream(alloc: Global, pictures: &[&[&[u8]]], behind: &[u8]) -> Result<Vec<u8>, AllocError> {
+// A slice of a picture whose luma samples are 192.
+#[rattlefmt::skip]
+const BRIGHT: &[u8] = &[
+    0x43, 0xFA, 0x05, 0x29, 0x48, 0x8B, 0x94, 0xA5, 0x22, 0x2E, 0x52, 0x94,
+    0x88, 0xB9, 0x4A, 0x52, 0x22, 0xE5, 0x29, 0x48, 0x8B, 0x94, 0xA5, 0x22, 0x20,
+];
+
+// Slices of pictures that copy a reference: that of a P picture, and the forward and the backward one of a B picture. The
+// first and the last macroblock have a vector of 0, and those between are skipped.
+const COPIES: &[u8] = &[0x42, 0x72, 0x38];
+
+const COPIES_FORWARD: &[u8] = &[0x42, 0x59, 0x16];
+
+const COPIES_BACKWARD: &[u8] = &[0x42, 0xB2, 0x58];
+
+// The same of a P picture whose first macroblock has a block of one coefficient, with level 1 or -1.
+const ADDS: &[u8] = &[0x42, 0xD5, 0x11, 0xC0];
+
+const TAKES_AWAY: &[u8] = &[0x42, 0xD7, 0x11, 0xC0];
+
+// Pictures behind their headers, each with four slices of these bytes, and what stands behind them.
+fn coded(
+    alloc: Global,
+    pictures: &[(&[&[u8]], &[u8])],
+    behind: &[u8],
+) -> Result<Vec<u8>, AllocError> {
     let mut bytes = Vec::new(alloc);
-    for heads in pictures {
+    for (heads, slice) in pictures {
         for head in *heads {
             bytes.extend_from_slice(head)?;
         }
         for row in 1..5u8 {
             bytes.extend_from_slice(&[0x00, 0x00, 0x01, row])?;
-            bytes.extend_from_slice(SLICE)?;
+            bytes.extend_from_slice(slice)?;
         }
+    }
+    bytes.extend_from_slice(behind)?;
+    Ok(bytes)
+}
+
+// Parts of a stream, each followed by the slices of a grey picture, and what stands behind them.
+fn stream(alloc: Global, pictures: &[&[&[u8]]], behind: &[u8]) -> Result<Vec<u8>, AllocError> {
+    let mut bytes = Vec::new(alloc);
+    for heads in pictures {
+        let picture = coded(alloc, &[(*heads, SLICE)], &[])?;
+        bytes.extend_from_slice(&picture)?;
     }
     bytes.extend_from_slice(behind)?;
     Ok(bytes)
@@ -76,19 +119,32 @@ fn example(alloc: Global) -> Result<Vec<u8>, AllocError> {
     stream(alloc, &[&[SEQUENCE, GROUP, INTRA]], &[])
 }
 
-// The frame file of so many grey frames, in all of which each sample is 512.
-fn grey_frames(alloc: Global, frames: usize) -> Result<Vec<u8>, AllocError> {
+// The bytes of a sample of 512 and of 768.
+const GREY_SAMPLE: [u8; 2] = [0x00, 0x02];
+
+const BRIGHT_SAMPLE: [u8; 2] = [0x00, 0x03];
+
+// The frame file of frames with these luma samples, whose chroma samples are all 512.
+fn flat_frames(alloc: Global, lumas: &[[u8; 2]]) -> Result<Vec<u8>, AllocError> {
     let mut file = Vec::new(alloc);
-    if frames > 0 {
+    if lumas.len() > 0 {
         file.extend_from_slice(b"YUV4MPEG2 W96 H64 F25:1 Ip A0:0 C420p10\n")?;
     }
-    for _ in 0..frames {
+    for luma in lumas {
         file.extend_from_slice(b"FRAME\n")?;
-        for _ in 0..9216 {
-            file.extend_from_slice(&[0x00, 0x02])?;
+        for _ in 0..6144 {
+            file.extend_from_slice(luma)?;
+        }
+        for _ in 0..3072 {
+            file.extend_from_slice(&GREY_SAMPLE)?;
         }
     }
     Ok(file)
+}
+
+// The frame file of so many grey frames, in all of which each sample is 512.
+fn grey_frames(alloc: Global, frames: usize) -> Result<Vec<u8>, AllocError> {
+    flat_frames(alloc, &vec![in alloc; GREY_SAMPLE; frames]?)
 }
 
 fn words(alloc: Global, texts: &[&str]) -> Result<Vec<String>, AllocError> {
@@ -192,14 +248,175 @@ fn a_refused_header_names_its_unit(rt: HostRuntime) -> Result<(), Fail> {
     ends(&rt, alloc, &repeated, Status::Done, 2, "")
 }
 
+// The first part of a stream: a grey I picture, and one whose luma samples are 192.
+const OPENING: [(&[&[u8]], &[u8]); 2] = [(&[SEQUENCE, GROUP, INTRA], SLICE), (&[INTRA], BRIGHT)];
+
+// `decode a` of these bytes ends with this status, the frames of these luma samples and this line.
+fn shows(
+    rt: &impl Abort,
+    alloc: Global,
+    bytes: &[u8],
+    status: Status,
+    lumas: &[[u8; 2]],
+    line: &str,
+) -> Result<(), Fail> {
+    let mut shelf = CleanShelf::new(inputs(alloc, bytes)?);
+    let mut out = MemSink::with_room(alloc, 400_000)?;
+    let mut say = MemSink::with_room(alloc, 40)?;
+    let words = words(alloc, &["decode", "a"])?;
+    assert_eq!(rt; run(alloc, &words, &mut shelf, &mut out, &mut say), status);
+    assert_eq!(rt; out.bytes(), flat_frames(alloc, lumas)?.as_slice());
+    assert_eq!(rt; say.bytes(), line.as_bytes());
+    Ok(())
+}
+
 #[test]
-fn pictures_of_other_kinds_are_not_built(rt: HostRuntime) -> Result<(), Fail> {
+fn frames_are_written_in_the_order_in_which_they_are_shown(rt: HostRuntime) -> Result<(), Fail> {
     let alloc = rt.alloc();
-    for other in [LEGALLY_PREDICTED, CONCEALED] {
-        let second = stream(alloc, &[&[SEQUENCE, GROUP, INTRA], &[other]], &[])?;
-        let refused = Status::Unit(1, Why::NotBuilt);
-        ends(&rt, alloc, &second, refused, 1, "unit 1: NotBuilt\n")?;
+    let (grey, bright) = (GREY_SAMPLE, BRIGHT_SAMPLE);
+    let mut bytes = coded(alloc, &OPENING, &[])?;
+    let later: [(&[&[u8]], &[u8]); 3] = [
+        (&[BETWEEN], COPIES_BACKWARD),
+        (&[BETWEEN], COPIES_FORWARD),
+        (&[LEGALLY_PREDICTED], COPIES),
+    ];
+    bytes.extend_from_slice(&coded(alloc, &later, &[])?)?;
+    let all = [grey, bright, grey, bright, bright];
+    shows(&rt, alloc, &bytes, Status::Done, &all, "")?;
+    // the anchor that is held is shown where a later unit is refused, too
+    bytes.extend_from_slice(NARROWER)?;
+    let (refused, line) = (Status::Unit(5, Why::BadOrder), "unit 5: BadOrder\n");
+    shows(&rt, alloc, &bytes, refused, &all, line)
+}
+
+#[test]
+fn leading_b_pictures_take_a_grey_picture_for_what_is_missing(rt: HostRuntime) -> Result<(), Fail> {
+    let alloc = rt.alloc();
+    let pictures: [(&[&[u8]], &[u8]); 3] = [
+        (&[SEQUENCE, GROUP, INTRA], BRIGHT),
+        (&[BETWEEN], COPIES_FORWARD),
+        (&[BETWEEN], COPIES_BACKWARD),
+    ];
+    let bytes = coded(alloc, &pictures, &[])?;
+    let all = [GREY_SAMPLE, BRIGHT_SAMPLE, BRIGHT_SAMPLE];
+    shows(&rt, alloc, &bytes, Status::Done, &all, "")
+}
+
+#[test]
+fn at_most_16_b_pictures_stand_behind_an_anchor(rt: HostRuntime) -> Result<(), Fail> {
+    let alloc = rt.alloc();
+    let mut bytes = coded(alloc, &OPENING, &[])?;
+    let between = coded(alloc, &[(&[BETWEEN], COPIES_FORWARD)], &[])?;
+    for _ in 0..16 {
+        bytes.extend_from_slice(&between)?;
     }
+    let mut lumas = vec![in alloc; GREY_SAMPLE; 17]?;
+    lumas.push(BRIGHT_SAMPLE)?;
+    shows(&rt, alloc, &bytes, Status::Done, &lumas, "")?;
+    bytes.extend_from_slice(&between)?;
+    let (refused, line) = (Status::Unit(18, Why::BadOrder), "unit 18: BadOrder\n");
+    shows(&rt, alloc, &bytes, refused, &lumas, line)
+}
+
+#[test]
+fn the_first_coefficient_of_a_block_has_codes_of_its_own(rt: HostRuntime) -> Result<(), Fail> {
+    let alloc = rt.alloc();
+    let words = words(alloc, &["decode", "a"])?;
+    let first = coded(alloc, &[(&[SEQUENCE, GROUP, INTRA], SLICE)], &[])?;
+    for (slice, sample) in [(ADDS, [0x0C, 0x02]), (TAKES_AWAY, [0xF4, 0x01])] {
+        let mut bytes = first.clone()?;
+        bytes.extend_from_slice(&coded(alloc, &[(&[LEGALLY_PREDICTED], slice)], &[])?)?;
+        let mut shelf = CleanShelf::new(inputs(alloc, &bytes)?);
+        let mut out = MemSink::with_room(alloc, 40_000)?;
+        let mut say = MemSink::with_room(alloc, 40)?;
+        let status = run(alloc, &words, &mut shelf, &mut out, &mut say);
+        assert_eq!(rt; status, Status::Done);
+        // the first sample of the second frame, and the first behind the block
+        assert_eq!(rt; out.bytes().get(18_484..18_486), Some(sample.as_slice()));
+        assert_eq!(rt;
+            out.bytes().get(18_500..18_502),
+            Some(GREY_SAMPLE.as_slice())
+        );
+    }
+    Ok(())
+}
+
+// A slice of a grey picture whose macroblocks have concealment vectors of 0.
+#[rattlefmt::skip]
+const CONCEALS: &[u8] = &[
+    0x43, 0xF2, 0x94, 0xA4, 0x45, 0xF9, 0x4A, 0x52, 0x22, 0xFC, 0xA5, 0x29,
+    0x11, 0x7E, 0x52, 0x94, 0x88, 0xBF, 0x29, 0x4A, 0x44, 0x5F, 0x94, 0xA5,
+    0x22, 0x20,
+];
+
+#[test]
+fn concealment_vectors_are_read_and_not_used(rt: HostRuntime) -> Result<(), Fail> {
+    let alloc = rt.alloc();
+    let mut bytes = coded(alloc, &OPENING, &[])?;
+    bytes.extend_from_slice(&coded(alloc, &[(&[CONCEALED], CONCEALS)], &[])?)?;
+    let all = [GREY_SAMPLE, BRIGHT_SAMPLE, GREY_SAMPLE];
+    shows(&rt, alloc, &bytes, Status::Done, &all, "")
+}
+
+// Each start code is cut between two pieces somewhere.
+#[test]
+fn pieces_of_any_length_give_the_same_frames(rt: HostRuntime) -> Result<(), Fail> {
+    let alloc = rt.alloc();
+    let bytes = stream(alloc, &[&[SEQUENCE, GROUP, INTRA], &[INTRA]], &[])?;
+    let file = grey_frames(alloc, 2)?;
+    let words = words(alloc, &["decode", "a"])?;
+    for most in 1..40 {
+        let inputs = inputs(alloc, &bytes)?;
+        let mut shelf = MemShelf::new(alloc, inputs, Vec::new(alloc), most)?;
+        let mut out = MemSink::with_room(alloc, 40_000)?;
+        let mut say = MemSink::with_room(alloc, 40)?;
+        let status = run(alloc, &words, &mut shelf, &mut out, &mut say);
+        assert_eq!(rt; status, Status::Done);
+        assert_eq!(rt; out.bytes(), file.as_slice());
+    }
+    Ok(())
+}
+
+// The frames of the units that were read whole stand on the output, but for the one that is held.
+#[test]
+fn frames_are_written_before_more_is_read(rt: HostRuntime) -> Result<(), Fail> {
+    let alloc = rt.alloc();
+    let bytes = stream(alloc, &[&[SEQUENCE, GROUP, INTRA], &[INTRA], &[INTRA]], &[])?;
+    let words = words(alloc, &["decode", "a"])?;
+    // a unit is decided with the start code behind it: at 163 and at 292 bytes, and each read moves one
+    for (call, arrives) in [(163u64, 0usize), (164, 40), (292, 40), (293, 18_478)] {
+        let inputs = inputs(alloc, &bytes)?;
+        let mut shelf = MemShelf::new(alloc, inputs, vec![in alloc; call; 1]?, 1)?;
+        let mut out = MemSink::with_room(alloc, 80_000)?;
+        let mut say = MemSink::with_room(alloc, 40)?;
+        let status = run(alloc, &words, &mut shelf, &mut out, &mut say);
+        assert_eq!(rt; status, Status::ReadFault);
+        assert_eq!(rt; out.bytes().len(), arrives);
+    }
+    Ok(())
+}
+
+// Of 12,900,159 bytes at least 12,000,000 are left where the first write fails.
+#[test]
+fn a_long_recording_is_not_read_ahead(rt: HostRuntime) -> Result<(), Fail> {
+    let alloc = rt.alloc();
+    let one = example(alloc)?;
+    let again = one.get(30..).ok_or("a stream too short")?;
+    let mut bytes = Vec::with_capacity(alloc, 12_900_159)?;
+    bytes.extend_from_slice(&one)?;
+    for _ in 0..100_000 {
+        bytes.extend_from_slice(again)?;
+    }
+    let mut input = Vec::new(alloc);
+    input.push((String::from_str(alloc, "a")?, bytes))?;
+    let mut shelf = CleanShelf::new(input);
+    let mut out = MemSink::failing(alloc, 40_000, vec![in alloc; 0; 1]?, usize::MAX)?;
+    let mut say = MemSink::with_room(alloc, 40)?;
+    let words = words(alloc, &["decode", "a"])?;
+    let status = run(alloc, &words, &mut shelf, &mut out, &mut say);
+    assert_eq!(rt; status, Status::WriteFault);
+    let mut left = vec![in alloc; 0; 12_000_000]?;
+    assert_eq!(rt; shelf.read(&mut left), Ok(12_000_000));
     Ok(())
 }
 
@@ -355,50 +572,5 @@ fn other_words_have_no_form(rt: HostRuntime) -> Result<(), Fail> {
         Status::Words
     );
     assert_eq!(rt; say.bytes(), b"words\n".as_slice());
-    Ok(())
-}
-
-// A list `l`; `a`, a frame file of one grey frame; `b`, the header line of a file of another size.
-fn inputs_of_cut(alloc: Global, list: &[u8]) -> Result<Vec<(String, Vec<u8>)>, AllocError> {
-    let mut inputs = inputs(alloc, &grey_frames(alloc, 1)?)?;
-    inputs.push((String::from_str(alloc, "l")?, list.to_vec(alloc)?))?;
-    let other = b"YUV4MPEG2 W80 H64 F25:1 Ip A0:0 C420p10\n".as_slice();
-    inputs.push((String::from_str(alloc, "b")?, other.to_vec(alloc)?))?;
-    Ok(inputs)
-}
-
-#[test]
-fn listed_frames_are_joined(rt: HostRuntime) -> Result<(), Fail> {
-    let alloc = rt.alloc();
-    let rows: [(&[u8], Status, usize, &str); 4] = [
-        (b"a 0 0\na 0 0\n", Status::Done, 2, ""),
-        (
-            b"a 0 1",
-            Status::Line(1, LineFault::ShortInput),
-            1,
-            "line 1: ShortInput\n",
-        ),
-        (
-            b"a 01 2\n",
-            Status::Line(1, LineFault::BadLine),
-            0,
-            "line 1: BadLine\n",
-        ),
-        (
-            b"a 0 0\nb 0 0\n",
-            Status::Line(2, LineFault::Differs),
-            1,
-            "line 2: Differs\n",
-        ),
-    ];
-    let words = words(alloc, &["cut", "l"])?;
-    for (list, status, frames, line) in rows {
-        let mut shelf = CleanShelf::new(inputs_of_cut(alloc, list)?);
-        let mut out = MemSink::with_room(alloc, 40_000)?;
-        let mut say = MemSink::with_room(alloc, 40)?;
-        assert_eq!(rt; run(alloc, &words, &mut shelf, &mut out, &mut say), status);
-        assert_eq!(rt; out.bytes(), grey_frames(alloc, frames)?.as_slice());
-        assert_eq!(rt; say.bytes(), line.as_bytes());
-    }
     Ok(())
 }
