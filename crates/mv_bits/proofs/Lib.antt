@@ -12,3 +12,5 @@ pub mod KeptLaws
 pub mod CompareLemmas
 pub mod WritingLemmas
 pub mod BackLaws
+pub mod ZeroRunLaws
+pub mod PackedLaws
