@@ -7,3 +7,4 @@ pub mod LineLemmas
 pub mod PassLemmas
 pub mod TotalLemmas
 pub mod SparseLemmas
+pub mod BackLemmas

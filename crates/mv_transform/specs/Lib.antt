@@ -2,3 +2,4 @@ pub mod Basis
 pub mod Transform
 pub mod Lines
 pub mod Steps
+pub mod Back

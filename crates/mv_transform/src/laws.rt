@@ -2,6 +2,7 @@
 
 ghost use Rattle.mv_transform.specs.Basis.{BasisIsMirrored};
 ghost use Rattle.mv_transform.specs.Lines.{InverseIsFolded, ForwardIsFolded, InverseByLines, ForwardByLines};
+ghost use Rattle.mv_transform.specs.Back.{ForwardOfInverseIsClose, InverseOfZeros, ForwardOfZeros, FirstIsSum};
 ghost use Rattle.mv_transform.specs.Transform.{InverseIsSaturated, ForwardIsBounded, InverseOfSame, ForwardOfSame};
 
 /// The weights at two places that mirror each other are equal, but for the sign of odd frequencies.
@@ -36,4 +37,16 @@ pub fn folded_lines_law()
 pub fn lines_law()
     ensures inverse { InverseByLines }
     ensures forward { ForwardByLines }
+{}
+
+/// Where saturation cuts nothing off, the forward transform of the inverse of a block is close to the block.
+pub fn back_law()
+    ensures { ForwardOfInverseIsClose }
+{}
+
+/// A block of zeros is transformed to zeros, and the first coefficient of any block comes from the sum of its samples.
+pub fn sum_law()
+    ensures inverse { InverseOfZeros }
+    ensures forward { ForwardOfZeros }
+    ensures first { FirstIsSum }
 {}

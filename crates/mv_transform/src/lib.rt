@@ -3,7 +3,8 @@
 //! Annex A leaves the arithmetic open within a tolerance. Here each value is one double sum of 64
 //! products with fixed integer weights, rounded once at its end: the same answer on every machine.
 //! The definitions stand in `specs/Basis.antt`, the weights by their rule, and in
-//! `specs/Transform.antt`, both directions over a block as a function of row and column.
+//! `specs/Transform.antt`, both directions over a block as a function of row and column;
+//! `specs/Back.antt` says what one direction after the other gives.
 #![tactic(auto)]
 
 ghost use Rattle.std.specs.Prelude.{◌≡◌, ℕ, ◌<◌};
@@ -25,8 +26,8 @@ mod weights;
 
 use dense::inverse_of_dense;
 pub use laws::{
-    folded_lines_law, forward_bounded_law, inverse_saturated_law, lines_law, mirrored_basis_law,
-    same_block_law,
+    back_law, folded_lines_law, forward_bounded_law, inverse_saturated_law, lines_law,
+    mirrored_basis_law, same_block_law, sum_law,
 };
 use passes::{forward_of_rows, widened};
 pub use plain::{plain_forward, plain_inverse};
