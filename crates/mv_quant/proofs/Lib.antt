@@ -1,3 +1,10 @@
 pub mod ScaleLemmas
 pub mod BlockLemmas
 pub mod MacroblockLemmas
+pub mod QuotientLemmas
+pub mod SizeLemmas
+pub mod SignLemmas
+pub mod OrderLemmas
+pub mod NearestLemmas
+pub mod RowLemmas
+pub mod CloseLemmas

@@ -22,10 +22,14 @@ scaled_level intra step level =
 abbrev pub step_at : Kind → ℕ → ℕ
 step_at kind k = slice_index kind.matrix k * kind.scale
 
+-- (v, u) is the place of an intra block's first level
+abbrev pub is_first_of_intra : Kind → ℕ → ℕ → Bool
+is_first_of_intra kind v u = kind.intra && ((v == 0) && (u == 0))
+
 -- the dequantised value of one level at (v, u), before mismatch control
 unfoldable pub value_of : Kind → ℕ → ℕ → ℤ → ℤ
 value_of kind v u level =
-    if kind.intra && ((v == 0) && (u == 0))
+    if is_first_of_intra kind v u
     then saturated (intra_dc_mult kind.dc_precision *ℤ level)
     else saturated (scaled_level kind.intra (step_at kind (8 * v + u)) level)
 

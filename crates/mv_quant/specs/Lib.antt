@@ -1,3 +1,5 @@
 pub mod Scale
 pub mod Dequantised
 pub mod Macroblocks
+pub mod Nearest
+pub mod Steps

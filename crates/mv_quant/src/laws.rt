@@ -1,7 +1,9 @@
-//! What holds of dequantised coefficients whatever the levels, for the crates above.
+//! What holds of dequantised coefficients whatever the levels, and of levels whatever the coefficients, for the crates
+//! above.
 
 ghost use Rattle.mv_quant.specs.Dequantised.{ValueIsSaturated, DequantisedIsSaturated, DequantisedOfSame};
 ghost use Rattle.mv_quant.specs.Macroblocks.{AbsentIsZero, CoefficientIsSaturated};
+ghost use Rattle.mv_quant.specs.Nearest.{NearestIsNearest, OneIsNearest, NearestIsLevel, NearestDcIsInRange, CloseIsNearest, NearestIsClose};
 
 /// The value of each level and each coefficient lies in −2048 to 2047.
 pub fn saturated_law()
@@ -18,4 +20,22 @@ pub fn same_levels_law()
 pub fn coefficients_law()
     ensures absent { AbsentIsZero }
     ensures range { CoefficientIsSaturated }
+{}
+
+/// The level of a coefficient is preferred to all that can be coded at its place, and is the only such level.
+pub fn nearest_law()
+    ensures nearest { NearestIsNearest }
+    ensures one { OneIsNearest }
+{}
+
+/// The level of any coefficient, however large, can be coded.
+pub fn nearest_range_law()
+    ensures level { NearestIsLevel }
+    ensures dc { NearestDcIsInRange }
+{}
+
+/// What is found near the value of a level has this level again, and the value of the nearest level is near.
+pub fn close_law()
+    ensures found { CloseIsNearest }
+    ensures near { NearestIsClose }
 {}

@@ -1,19 +1,28 @@
-//! The inverse quantiser (H.262, 7.4): what the levels of a block stand for.
+//! The inverse quantiser (H.262, 7.4): what the levels of a block stand for, and the levels nearest to coefficients.
 //! Its promise: `dequantise` gives the coefficients of a block as the standard defines them, one at a time, with
-//! saturation and mismatch control, and `scale_value` the scale of a code.
+//! saturation and mismatch control, `nearest` the levels whose values are nearest to coefficients, and `scale_value`
+//! the scale of a code.
 //! The definitions stand in `specs/Scale.antt`, in `specs/Dequantised.antt`, where the value of one level stands
-//! alone, and for the blocks of a macroblock in `specs/Macroblocks.antt`.
+//! alone, in `specs/Nearest.antt`, and for the blocks of a macroblock in `specs/Macroblocks.antt`.
 #![tactic(auto)]
 
 ghost use Rattle.std.specs.Prelude.{◌≡◌, ◌<◌, ◌≤◌, true};
-ghost use Rattle.mv_terms.specs.Ranges.{IsScaleCode};
+ghost use Rattle.mv_terms.specs.Ranges.{IsScaleCode, HasLegalScales};
+ghost use Rattle.mv_quant.specs.Macroblocks.{kind_of};
 ghost use Rattle.mv_quant.specs.Scale.{scale_of};
 
 mod block;
 mod laws;
+mod level;
+mod levels;
+mod reciprocals;
 
 pub use block::{dequantise, first_value};
-pub use laws::{coefficients_law, same_levels_law, saturated_law};
+pub use laws::{
+    close_law, coefficients_law, nearest_law, nearest_range_law, same_levels_law, saturated_law,
+};
+pub use levels::nearest;
+use mv_terms::{Decision, Head};
 
 /// How the levels of a block were quantised.
 #[derive(Clone, Copy, Debug, PartialEq, Eq)]
@@ -26,6 +35,24 @@ pub struct Kind {
     pub dc_precision: u8,
     /// The quantiser matrix `W[v][u]` in raster order.
     pub matrix: [u8; 64],
+}
+
+/// How the levels of a macroblock were quantised, or are to be (H.262, 7.4).
+pub fn kind_of(head: &Head, decision: &Decision) -> Kind
+    requires { HasLegalScales decision.now }
+    ensures kind { result ≡ kind_of head.now decision.now }
+    ensures scale { (0 < result.scale) × (result.scale ≤ 112) }
+{
+    Kind {
+        intra: decision.intra,
+        scale: scale_value(decision.scale, head.non_linear),
+        dc_precision: head.dc_precision,
+        matrix: if decision.intra {
+            head.matrices.intra
+        } else {
+            head.matrices.non_intra
+        },
+    }
 }
 
 /// The quantiser scale of a `quantiser_scale_code` from 1 to 31 (H.262, 7.4.2.2); `non_linear` is `q_scale_type`.
