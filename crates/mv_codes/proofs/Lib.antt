@@ -1,5 +1,6 @@
 pub mod TableLaws
 pub mod TableFacts
+pub mod RunFacts
 pub mod LookUpLaws
 pub mod LookUpFacts
 mod FirstLemmas
@@ -7,3 +8,4 @@ pub mod SpelledLaws
 pub mod PlaceFacts
 mod LevelFacts
 pub mod WrittenLaws
+pub mod BoundedLaws
