@@ -22,7 +22,7 @@ use Rattle.mv_codes.proofs.WrittenLaws.{dc_sizes_written}
 use Rattle.mv_blocks.proofs.DcLemmas.{choose_first, choose_second}
 
 -- the size of a magnitude: it has room for it, and no smaller one has
-size_bound : (n magnitude : ℕ) → size_within n magnitude ≤ n
+pub size_bound : (n magnitude : ℕ) → size_within n magnitude ≤ n
 size_bound zero magnitude = omega arith
 size_bound (suc n) magnitude = go (ltb magnitude (2 ^ n)) (size_bound n magnitude)
   where
@@ -36,7 +36,7 @@ low_test a b e = grind (arith, nat_tests)
 high_test : (a b : ℕ) → ltb a b ≡ false → b ≤ a
 high_test a b e = grind (arith, nat_tests)
 
-size_enough : (n magnitude : ℕ) → magnitude < 2 ^ n → magnitude < 2 ^ size_within n magnitude
+pub size_enough : (n magnitude : ℕ) → magnitude < 2 ^ n → magnitude < 2 ^ size_within n magnitude
 size_enough zero magnitude h = h
 size_enough (suc n) magnitude h = go (ltb magnitude (2 ^ n)) refl (size_enough n magnitude)
   where
@@ -80,18 +80,30 @@ differential_fits size (pos n) h = rw (pos_not_below n) h
 differential_fits size (negsuc n) h = omega (arith, pow_pos size)
 
 -- each size has a code in both tables
-each_size_coded : (luma : Bool) → all_below (λ n. has_code (same_number n) (dc_size_codes luma)) 12 ≡ true
+pub each_size_coded : (luma : Bool) → all_below (λ n. has_code (same_number n) (dc_size_codes luma)) 12 ≡ true
 unfolding luma_size_codes chroma_size_codes
 each_size_coded true = refl
 each_size_coded false = refl
+
+-- a DC level and its predictor differ by 11 bits at most
+pub difference_fits : (predictor dc : ℤ) (precision : ℕ) → precision ≤ 3 → IsDcLevel precision dc → IsDcLevel precision predictor → unsigned_abs (dc -ℤ predictor) < 2 ^ 11
+difference_fits predictor dc precision precise right before =
+    let bound : 2 ^ (8 + precision) ≤ 2 ^ 11 = pow_mono {i = 8 + precision} {j = 11} (omega arith) in
+    magnitude dc predictor (2 ^ (8 + precision)) (2 ^ 11) bound right.0 right.1 before.0 before.1
+  where
+    magnitude : (v p : ℤ) (n bound : ℕ) → n ≤ bound → pos 0 ≤ℤ v → v <ℤ pos n → pos 0 ≤ℤ p → p <ℤ pos n → unsigned_abs (v -ℤ p) < bound
+    magnitude v p n bound few least most least' most' = within (v -ℤ p) bound (omega (arith, ints)) (omega (arith, ints))
+      where
+        within : (z : ℤ) (bound : ℕ) → z <ℤ pos bound → pos 0 <ℤ (z +ℤ pos bound) → unsigned_abs z < bound
+        within (pos n) bound a b = omega (arith, ints)
+        within (negsuc n) bound a b = omega (arith, ints)
 
 module _ (code : BlockCode) where
   pub dc_back : (predictor dc : ℤ) → code.dc_precision ≤ 3 → IsDcLevel code.dc_precision dc → IsDcLevel code.dc_precision predictor → ReadsBack Why (DcLevel code predictor) dc (dc_bits code.luma (dc -ℤ predictor))
   dc_back predictor dc precise right before =
       let difference = dc -ℤ predictor in
       let size = dc_size difference in
-      let bound : 2 ^ (8 + code.dc_precision) ≤ 2 ^ 11 = pow_mono {i = 8 + code.dc_precision} {j = 11} (omega arith) in
-      let fits : unsigned_abs difference < 2 ^ 11 = magnitude dc predictor (2 ^ (8 + code.dc_precision)) (2 ^ 11) bound right.0 right.1 before.0 before.1 in
+      let fits = difference_fits predictor dc code.dc_precision precise right before in
       let enough = size_enough 11 (unsigned_abs difference) fits in
       let few = size_bound 11 (unsigned_abs difference) in
       let there_again = difference_back size difference enough (size_halves 11 (unsigned_abs difference)) in
@@ -105,10 +117,3 @@ module _ (code : BlockCode) where
     where
       there : (p v : ℤ) → p +ℤ (v -ℤ p) ≡ v
       there p v = omega (arith, ints)
-
-      magnitude : (v p : ℤ) (n bound : ℕ) → n ≤ bound → pos 0 ≤ℤ v → v <ℤ pos n → pos 0 ≤ℤ p → p <ℤ pos n → unsigned_abs (v -ℤ p) < bound
-      magnitude v p n bound few least most least' most' = within (v -ℤ p) bound (omega (arith, ints)) (omega (arith, ints))
-        where
-          within : (z : ℤ) (bound : ℕ) → z <ℤ pos bound → pos 0 <ℤ (z +ℤ pos bound) → unsigned_abs z < bound
-          within (pos n) bound a b = omega (arith, ints)
-          within (negsuc n) bound a b = omega (arith, ints)

@@ -8,5 +8,9 @@ pub mod LevelLaws
 mod DcBack
 mod PairsBack
 mod FitLaws
+pub mod BoundedLaws
+mod DcWritten
+mod WriteLemmas
+mod WritableLaws
 pub mod BlockBack
 pub mod LegalLaws

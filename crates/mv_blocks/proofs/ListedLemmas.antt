@@ -9,16 +9,16 @@ use Rattle.mv_blocks.specs.declared.block.Pair.{Pair}
 use Rattle.mv_terms.specs.Scans.{raster_place}
 use Rattle.mv_blocks.specs.Blocks.{pair, pairs_in, pairs_of, in_scan, first_place}
 
-pairs_in-zero : (run : ℕ) (v : ℤ) (vs : List ℤ) → v ≡ pos 0 → pairs_in run (v ∷ vs) ≡ pairs_in (run + 1) vs
+pub pairs_in-zero : (run : ℕ) (v : ℤ) (vs : List ℤ) → v ≡ pos 0 → pairs_in run (v ∷ vs) ≡ pairs_in (run + 1) vs
 pairs_in-zero run v vs e = rw e refl
 
-pairs_in-level : (run : ℕ) (v : ℤ) (vs : List ℤ) → (v ≡ pos 0 → ⊥) → pairs_in run (v ∷ vs) ≡ pair run v ∷ pairs_in 0 vs
+pub pairs_in-level : (run : ℕ) (v : ℤ) (vs : List ℤ) → (v ≡ pos 0 → ⊥) → pairs_in run (v ∷ vs) ≡ pair run v ∷ pairs_in 0 vs
 pairs_in-level run (pos zero) vs e = absurd (e refl)
 pairs_in-level run (pos (suc n)) vs e = refl
 pairs_in-level run (negsuc n) vs e = refl
 
 module _ (levels : List ℤ) (intra alternate : Bool) where
-  abbrev level : ℕ → ℤ
+  abbrev pub level : ℕ → ℤ
   level k = get_or levels (raster_place alternate k) (pos 0)
 
   scan_long : length (in_scan alternate levels) ≡ 64
@@ -32,7 +32,7 @@ module _ (levels : List ℤ) (intra alternate : Bool) where
       none_added : (n : ℕ) → 0 + n ≡ n
       none_added n = omega arith
 
-  scan_rest : (k : ℕ) → k < 64 → drop k (in_scan alternate levels) ≡ level k ∷ drop (k + 1) (in_scan alternate levels)
+  pub scan_rest : (k : ℕ) → k < 64 → drop k (in_scan alternate levels) ≡ level k ∷ drop (k + 1) (in_scan alternate levels)
   scan_rest k h = drop_more (in_scan alternate levels) k (pos 0) (rw scan_long h) ∙ ap (λ (z : ℤ). z ∷ drop (k + 1) (in_scan alternate levels)) (scan_at k h)
 
   -- so many places have been listed
@@ -64,7 +64,7 @@ module _ (levels : List ℤ) (intra alternate : Bool) where
           same = append_assoc items (pair run (level k) ∷ []) rest ∙ ap (λ (x : List Pair). items ++ x) (sym step) ∙ s.same;
         }
 
-  scan_end : drop 64 (in_scan alternate levels) ≡ []
+  pub scan_end : drop 64 (in_scan alternate levels) ≡ []
   unfolding in_scan
   scan_end = refl
 

@@ -1,5 +1,5 @@
 -- Runs and levels read back from their canonical bits, up to the end of the block (H.262, 7.2.2).
-use Rattle.std.proofs.Common.{◌≡◌, ℕ, ◌+◌, ◌-◌, ◌^◌, ◌<◌, Bool, true, false, ◌||◌, ◌&&◌, not, eqb, List, [], ◌∷◌, ◌++◌, append_assoc, refl, ap, sym, ◌∙◌, subst, arith, inl, inr, ℤ, pos, negsuc, ◌-ℤ◌, Some, None, Ok}
+use Rattle.std.proofs.Common.{◌≡◌, ℕ, ◌+◌, ◌-◌, ◌^◌, ◌<◌, Bool, true, false, ◌&&◌, not, eqb, List, [], ◌∷◌, ◌++◌, append_assoc, refl, ap, sym, ◌∙◌, subst, arith, inl, inr, ℤ, pos, negsuc, ◌-ℤ◌, Some, None, Ok}
 use Rattle.std.proofs.lemmas.Bool.Decides.{nat_tests}
 use Rattle.std.proofs.lemmas.Int.{ints}
 use Rattle.mv_terms.specs.declared.status.Why.TheVariants.{BadCode, BadBlock}
@@ -23,7 +23,7 @@ use Rattle.mv_codes.proofs.SpelledLaws.{code_whatever}
 use Rattle.mv_blocks.proofs.DcLemmas.{choose_first, choose_second}
 
 -- each table has an escape, and all but that of first coefficients have an end
-escape_has : (table_15 first : Bool) → has_code (same_coef coef.Escape) (coef_codes table_15 first) ≡ true
+pub escape_has : (table_15 first : Bool) → has_code (same_coef coef.Escape) (coef_codes table_15 first) ≡ true
 unfolding codes_14 codes_15 first_codes_14 levels_14 levels_15
 escape_has true first = refl
 escape_has false true = refl
@@ -55,7 +55,7 @@ escaped_back p inside coded =
     (back_demand (IsForbidden (signed_12 n) → ⊥) BadBlock (λ bad. not_forbidden p.level coded (subst IsForbidden t.1 bad)))
     (back_gives (Some (pair p.run (signed_12 n))) (Some p) (ap (λ (x : ℤ). Some (pair p.run x)) t.1))))
 
-not_first : (intra : Bool) (place : ℕ) → 0 < place → (not intra && eqb place 0) ≡ false
+pub not_first : (intra : Bool) (place : ℕ) → 0 < place → (not intra && eqb place 0) ≡ false
 not_first true place inside = refl
 not_first false place inside = grind (arith, nat_tests)
 
@@ -82,7 +82,7 @@ module _ (code : BlockCode) where
       (back_second (Demands (IsInside place (Some p)) BadBlock) _ tt (Some p) [] (back_demand (IsInside place (Some p)) BadBlock inside)
       (back_gives (Some p) (Some p) refl))
 
-  end_there : (place : ℕ) → 0 < place → has_code (same_coef coef.End) (codes_at code place) ≡ true
+  pub end_there : (place : ℕ) → 0 < place → has_code (same_coef coef.End) (codes_at code place) ≡ true
   end_there place behind = ap (λ (first : Bool). has_code (same_coef coef.End) (coef_codes (code.intra && code.table_15) first)) (not_first code.intra place behind) ∙ end_has (code.intra && code.table_15)
 
   end_back : (place : ℕ) → 0 < place → ReadsBack Why (Next code place) None (code_of (same_coef coef.End) (codes_at code place))

@@ -5,6 +5,7 @@ use Rattle.mv_terms.specs.declared.status.Why.{Why}
 use Rattle.mv_terms.specs.Ranges.{IsLevel}
 use Rattle.mv_bits.specs.Bits.{digits}
 use Rattle.mv_bits.specs.ReadBack.{ReadsBack}
+use Rattle.mv_bits.specs.ZeroRuns.{IsBounded}
 use Rattle.mv_codes.specs.declared.code.Code.{Code}
 use Rattle.mv_codes.specs.declared.coefficient.Coef.{Coef}
 use Rattle.mv_codes.specs.declared.coefficient.Coef.TheVariants as coef
@@ -99,6 +100,13 @@ abbrev pub BlockReadsBack : Type 0
 BlockReadsBack =
     (code : BlockCode) (predictor : ℤ) (levels : List ℤ) → IsWritable code predictor levels
     → ReadsBack Why (Block code predictor) levels (block_bits code predictor levels)
+
+-- behind at most 4 zero bits, no 1 of the canonical bits of a block stands behind 23 zeros in a row; they end with at
+-- most one zero, and are at most 1,540;
+abbrev pub BlockIsBounded : Type 0
+BlockIsBounded =
+    (code : BlockCode) (predictor : ℤ) (levels : List ℤ) → IsWritable code predictor levels
+    → IsBounded 4 (block_bits code predictor levels) 1 1540
 
 -- levels that are read lie in -2047 to 2047.
 abbrev pub ReadLevelsAreLegal : Type 0

@@ -80,13 +80,13 @@ fn read_escaped(w: &mut BitWindow<'_>) -> Result<Option<Pair>, Why>
     }
 }
 
-fn is_first(code: BlockCode, place: usize) -> bool
+pub(crate) fn is_first(code: BlockCode, place: usize) -> bool
     ensures { result ≡ (not code.intra && (place == 0)) }
 {
     !code.intra && place == 0
 }
 
-fn has_table_15(code: BlockCode) -> bool
+pub(crate) fn has_table_15(code: BlockCode) -> bool
     ensures { result ≡ (code.intra && code.table_15) }
 {
     code.intra && code.table_15
@@ -225,7 +225,7 @@ fn read_intra(
 }
 
 /// The level at a place of the scan.
-fn level_at(levels: &[i16; 64], alternate: bool, k: usize) -> i16
+pub(crate) fn level_at(levels: &[i16; 64], alternate: bool, k: usize) -> i16
     requires { k < 64 }
     ensures { result ≡ slice_index_or levels.now (raster_place alternate k) (pos 0) }
 {

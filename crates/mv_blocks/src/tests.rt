@@ -1,9 +1,12 @@
 //! Blocks read from bits that were written by hand or by another encoder.
 ghost use Rattle.std.specs.Prelude.{◌≤◌};
+ghost use Rattle.mv_blocks.specs.Written.{IsWritable};
 
 use super::*;
-use mv_bits::BitWindow;
+use mv_bits::{BitWindow, BitWriter, Room};
 use mv_terms::Why;
+use std::process::Abort;
+use std::test::Fail;
 
 const INTRA: BlockCode = BlockCode {
     intra: true,
@@ -117,4 +120,52 @@ fn a_dc_level_fits_its_precision(rt: HostRuntime) {
         ..INTRA
     };
     assert_eq!(rt; read(&[0xFD, 0x01, 0x00], precise).2, 256);
+}
+
+/// The levels of the first block above.
+#[rattlefmt::skip]
+const COLUMNS: [i16; 64] = [
+    44, 10, 6, 3, 0, -1, -2, -1, 0, 0, 0, 0, 0, 0, 0, 0,
+    0, 0, 0, 0, 0, 0, 0, 0, 0, 0, 0, 0, 0, 0, 0, 0,
+    0, 0, 0, 0, 0, 0, 0, 0, 0, 0, 0, 0, 0, 0, 0, 0,
+    0, 0, 0, 0, 0, 0, 0, 0, 0, 0, 0, 0, 0, 0, 0, 0,
+];
+
+#[rattlefmt::skip]
+const LEAST: [i16; 64] = [
+    -2047, 0, 0, 0, 0, 0, 0, 0, 0, 0, 0, 0, 0, 0, 0, 0,
+    0, 0, 0, 0, 0, 0, 0, 0, 0, 0, 0, 0, 0, 0, 0, 0,
+    0, 0, 0, 0, 0, 0, 0, 0, 0, 0, 0, 0, 0, 0, 0, 0,
+    0, 0, 0, 0, 0, 0, 0, 0, 0, 0, 0, 0, 0, 0, 0, 0,
+];
+
+/// The predictor of the next DC level behind a block, whose bits are these bytes with zeros behind them.
+fn put(
+    rt: &impl Abort,
+    room: &mut Room,
+    code: BlockCode,
+    mut dc: i16,
+    levels: &[i16; 64],
+    bytes: &[u8],
+) -> i16
+    requires { IsWritable code dc levels.now }
+{
+    let mut out = BitWriter::new();
+    write_block(&mut out, code, &mut dc, levels, room);
+    out.align(room);
+    assert!(rt; room.bytes() == bytes);
+    room.clear();
+    dc
+}
+
+#[test]
+fn blocks_are_written_as_an_encoder_wrote_them(rt: HostRuntime) -> Result<(), Fail> {
+    let mut room = Room::take(rt.alloc(), 16)?;
+    let columns = [
+        0xF9, 0x58, 0x09, 0x81, 0x0C, 0x01, 0x8A, 0x0F, 0x00, 0x1A, 0xF8,
+    ];
+    assert_eq!(rt; put(&rt, &mut room, INTRA, 128, &COLUMNS, &columns), 44);
+    let least = [0x04, 0x08, 0x01, 0x80];
+    assert_eq!(rt; put(&rt, &mut room, NON_INTRA, 128, &LEAST, &least), 128);
+    Ok(())
 }
