@@ -1,21 +1,29 @@
 -- What the steps of reading a macroblock leave: nobody needs to believe it, it only carries proofs.
-use Rattle.std.specs.Prelude.{◌≡◌, ℕ, ◌+◌, ◌-◌, ◌==◌, ◌⊎◌, nat_lt, Bool, false, List, if◌then◌else◌, slice_set, ℤ, pos, Result, Ok, Err}
+use Rattle.std.specs.Prelude.{◌≡◌, ℕ, ◌+◌, ◌-◌, ◌==◌, ◌⊎◌, ◌||◌, ◌&&◌, not, nat_lt, Bool, true, false, List, [], ◌∷◌, ◌++◌, if◌then◌else◌, slice_set, ℤ, pos, Result, Ok, Err}
 use Rattle.mv_terms.specs.declared.status.Why.{Why}
 use Rattle.mv_terms.specs.declared.head.Head.{Head}
 use Rattle.mv_terms.specs.declared.macroblock.Decision.{Decision}
 use Rattle.mv_terms.specs.declared.macroblock.MacroLevels.{MacroLevels}
 use Rattle.mv_terms.specs.declared.macroblock.Vector.{Vector}
+use Rattle.mv_terms.specs.PicTypes.{is_b}
 use Rattle.mv_terms.specs.Decisions.{still, no_levels}
+use Rattle.mv_bits.specs.Bits.{digits}
+use Rattle.mv_bits.specs.ReadBack.{sent}
 use Rattle.mv_bits.specs.Readings.{Flag, When}
 use Rattle.mv_codes.specs.declared.macroblock_type.TypeBits.{TypeBits}
 use Rattle.mv_codes.specs.Tables.{Spells}
 use Rattle.mv_codes.specs.Types.{type_codes}
-use Rattle.mv_blocks.specs.Blocks.{Block}
-use Rattle.mv_vectors.specs.Vectors.{Directed, Direction, undirected, four, predictor_at, resets}
+use Rattle.mv_codes.specs.Patterns.{pattern_codes}
+use Rattle.mv_codes.specs.Spelled.{code_of, same_type, same_number}
+use Rattle.mv_blocks.specs.Blocks.{Block, IsDcLevel}
+use Rattle.mv_vectors.specs.Vectors.{Directed, Direction, directed, undirected, four, predictor_at, resets}
+use Rattle.mv_vectors.specs.Written.{direction_bits}
 use Rattle.mv_vectors.specs.Steps.{with_directed, with_left}
 use Rattle.mv_macro.specs.declared.macroblock.Modes.{Modes}
 use Rattle.mv_macro.specs.Past.{CodedMacroblock, Given, Start, coded, given, after, dc_level, last_dc_levels, reset_levels}
-use Rattle.mv_macro.specs.Macroblocks.{block_code, IntraBlock, IntraBlocks, PatternBlocks, Blocks, MotionType, ScaleCode, Marker, Pattern, sends_motion_type, sends_dct_type, predictor_of, Macroblock, Skipped}
+use Rattle.mv_macro.specs.Macroblocks.{block_code, IntraBlock, IntraBlocks, PatternBlocks, Blocks, MotionType, ScaleCode, Marker, Pattern, sends_motion_type, sends_dct_type, has_concealment, predictor_of, Macroblock, Skipped}
+use Rattle.mv_macro.specs.Settled.{is_still, pattern_of}
+use Rattle.mv_macro.specs.Written.{motion_type_bits, blocks_bits}
 
 -- the component of block i: 0 for Y, 1 for Cb and 2 for Cr
 abbrev pub component_of_block : ℕ → ℕ
@@ -208,3 +216,58 @@ ReadsSkipped head before next decision (Err why) =
 -- the state stands for the macroblocks of a slice so far, the latest first
 abbrev pub StandsFor : Given → Head → Start → List CodedMacroblock → Type 0
 StandsFor state head start past = state ≡ given head start past
+
+-- ---- what is written
+
+-- the settled decision of a macroblock that has blocks or not, at the edge of its slice or not, behind this scale code
+abbrev pub settled_with : Head → Bool → Bool → ℕ → Decision → Decision
+settled_with head blocks at_edge in_force decision =
+    let sends = blocks && (decision.quant || not (decision.scale == in_force)) in record {
+      slice_start = decision.slice_start;
+      skipped = not blocks
+          && ((is_still head decision && not at_edge) || (is_b head.pic && decision.skipped));
+      quant = sends;
+      intra = decision.intra;
+      forward = decision.forward || (is_still head decision && (not blocks && at_edge));
+      backward = decision.backward;
+      field_dct = blocks && (not head.frame_only && decision.field_dct);
+      field_motion = decision.field_motion;
+      scale = if sends then decision.scale else in_force;
+      selects = decision.selects;
+      vectors = decision.vectors;
+      head_scale = decision.head_scale;
+    }
+
+-- what stands before the vectors
+abbrev pub modes_bits : Head → TypeBits → Decision → List Bool
+modes_bits head type decision =
+    code_of (same_type type) (type_codes head.pic)
+    ++ (sent (sends_motion_type head type) (motion_type_bits decision.field_motion)
+    ++ (sent (sends_dct_type head type) (decision.field_dct ∷ [])
+    ++ sent type.quant (digits 5 decision.scale)))
+
+-- the vectors
+abbrev pub motion_bits : Head → List (List Vector) → TypeBits → Decision → List Bool
+motion_bits head predictors type decision =
+    sent (type.forward || has_concealment head type)
+    (direction_bits head predictors decision 0 decision.field_motion)
+    ++ (sent type.backward (direction_bits head predictors decision 1 decision.field_motion)
+    ++ sent (has_concealment head type) (true ∷ []))
+
+-- the predictors that they leave
+abbrev pub left_behind : Head → List (List Vector) → TypeBits → Decision → List (List Vector)
+left_behind head predictors type decision =
+    left_by_both (type.forward || has_concealment head type) type.backward decision.field_motion predictors
+    (directed decision 0) (directed decision 1)
+
+-- the pattern and the blocks
+abbrev pub pattern_and_blocks_bits : Head → List ℤ → TypeBits → MacroLevels → List Bool
+pattern_and_blocks_bits head dc type levels =
+    sent type.pattern (code_of (same_number (pattern_of levels)) pattern_codes)
+    ++ blocks_bits head dc type.intra levels
+
+-- the DC levels of blocks of each component are predicted from levels in their range
+pub record AreDcPredictors (head : Head) (dc : List ℤ) : Type 0 where
+  pub y : IsDcLevel head.dc_precision (predictor_of dc 0)
+  pub cb : IsDcLevel head.dc_precision (predictor_of dc 1)
+  pub cr : IsDcLevel head.dc_precision (predictor_of dc 2)
