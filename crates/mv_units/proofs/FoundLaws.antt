@@ -141,11 +141,11 @@ walk_cut place k bytes f before front len is =
 
 -- ---- the first unit begins behind zeros
 
-two_zeros : (m : ℕ) (x : List ℕ) → zero_bytes (m + 2) ++ x ≡ zero_bytes m ++ 0 ∷ 0 ∷ x
+pub two_zeros : (m : ℕ) (x : List ℕ) → zero_bytes (m + 2) ++ x ≡ zero_bytes m ++ 0 ∷ 0 ∷ x
 two_zeros zero x = refl
 two_zeros (suc m) x = let e : suc m + 2 ≡ suc (m + 2) = omega arith in rw e (ap (λ (y : List ℕ). 0 ∷ y) (two_zeros m x))
 
-stream_shape : (bytes : List ℕ) → 2 ≤ zeros_in_front bytes → get_or bytes (zeros_in_front bytes) 0 ≡ 1 → (y : List ℕ) × (bytes ≡ zero_bytes (zeros_in_front bytes - 2) ++ 0 ∷ 0 ∷ 1 ∷ y)
+pub stream_shape : (bytes : List ℕ) → 2 ≤ zeros_in_front bytes → get_or bytes (zeros_in_front bytes) 0 ≡ 1 → (y : List ℕ) × (bytes ≡ zero_bytes (zeros_in_front bytes - 2) ++ 0 ∷ 0 ∷ 1 ∷ y)
 stream_shape bytes two one =
     let z = zeros_in_front bytes in
     let inside : z < length bytes =
@@ -168,7 +168,7 @@ start_some : (y : List ℕ) → (cut (0 ∷ 0 ∷ 1 ∷ y)).elements ≡ [] → 
 unfolding cut
 start_some y is = cc
 
-started : (bytes : List ℕ) (k : ℕ) (y : List ℕ) → bytes ≡ zero_bytes k ++ 0 ∷ 0 ∷ 1 ∷ y → Started bytes k
+pub started : (bytes : List ℕ) (k : ℕ) (y : List ℕ) → bytes ≡ zero_bytes k ++ 0 ∷ 0 ∷ 1 ∷ y → Started bytes k
 started bytes k y is =
     let x : List ℕ = 0 ∷ 0 ∷ 1 ∷ y in
     let whole : cut bytes ≡ record { front = zero_bytes k; elements = (cut x).elements } = ap (λ (b : List ℕ). cut b) is ∙ cut_join (zero_bytes k) x refl ∙ rw (zeros_cut k) refl in
@@ -182,7 +182,7 @@ abbrev pub IsAligned : Before → List ℕ → Type 0
 IsAligned before.Unit bytes = are_elements bytes ≡ true
 IsAligned other bytes = Unit {0}
 
-unit_cut_back : (begin : Before) (bytes : List ℕ) (f : Found) → IsAligned begin bytes → next_unit true begin bytes ≡ Ready f → CutUnit (place_of begin) bytes f
+pub unit_cut_back : (begin : Before) (bytes : List ℕ) (f : Found) → IsAligned begin bytes → next_unit true begin bytes ≡ Ready f → CutUnit (place_of begin) bytes f
 unfolding next_unit
 unit_cut_back before.Stream bytes f aligned is =
     let z = zeros_in_front bytes in
@@ -280,7 +280,7 @@ open_empty before.Ended (b ∷ bs) aligned is = absurd cc
 -- ---- all units
 
 -- past the room nothing else is found
-ready_closed : (begin : Before) (room : ℕ) (bytes : List ℕ) (f : Found) → next_of (fed_with begin room bytes) ≡ Ready f → next_unit true begin bytes ≡ Ready f
+pub ready_closed : (begin : Before) (room : ℕ) (bytes : List ℕ) (f : Found) → next_of (fed_with begin room bytes) ≡ Ready f → next_unit true begin bytes ≡ Ready f
 ready_closed begin room bytes f is =
     elim (cases_lt room (length bytes)) [
       | inr fits ↦ rw (le-leb (length bytes) room fits) at is

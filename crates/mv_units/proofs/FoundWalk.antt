@@ -37,7 +37,7 @@ or_parts false b is = (refl, is)
 some_same : (p q : Place) → Some p ≡ Some q → p ≡ q
 some_same p q is = cc
 
-short_of : (parts : PartLengths) → is_too_long parts ≡ false → Short parts
+pub short_of : (parts : PartLengths) → is_too_long parts ≡ false → Short parts
 short_of parts is =
     let h = or_parts (ltb part_limit parts.prefix || ltb part_limit parts.head) (ltb part_limit parts.slices) is in
     let g = or_parts (ltb part_limit parts.prefix) (ltb part_limit parts.head) h.0 in

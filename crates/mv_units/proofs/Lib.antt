@@ -5,6 +5,12 @@ mod FoundLaws
 mod FoundWalk
 pub mod JudgementLaws
 pub mod NextLaws
+mod GapBounds
+mod GapCutter
+mod GapFed
+mod GapLaws
+mod GapRoom
+mod GapWalk
 mod OpenElement
 mod Places
 mod ProgressLaws

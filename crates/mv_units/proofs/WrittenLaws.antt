@@ -202,7 +202,7 @@ unfolding next_unit stream_of
 later_ready u us is last are = ready_walk Later u us 0 (λ e. cc) is last are (sym (ap (λ (x : List ℕ). length x) is.front))
 
 -- zero bytes in front of the first element
-first_shape : (bytes : List ℕ) (es : List (List ℕ)) (k : ℕ) → (cut bytes).front ≡ zero_bytes k → (cut bytes).elements ≡ es → (es ≡ [] → ⊥) → (y : List ℕ) × (bytes ≡ zero_bytes k ++ 0 ∷ 0 ∷ 1 ∷ y)
+pub first_shape : (bytes : List ℕ) (es : List (List ℕ)) (k : ℕ) → (cut bytes).front ≡ zero_bytes k → (cut bytes).elements ≡ es → (es ≡ [] → ⊥) → (y : List ℕ) × (bytes ≡ zero_bytes k ++ 0 ∷ 0 ∷ 1 ∷ y)
 first_shape bytes [] k front is some = absurd (some refl)
 first_shape bytes (e ∷ es) k front is some =
     let starts : Start (e ∷ es) = subst Start is (elements_all_start bytes) in

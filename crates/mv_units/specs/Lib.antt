@@ -1,3 +1,4 @@
+pub mod Gaps
 pub mod Profile
 pub mod Shape
 pub mod Steps

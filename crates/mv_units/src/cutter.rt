@@ -1,12 +1,13 @@
 //! The cutter: a stream that comes in pieces, unit by unit.
-ghost use Rattle.std.specs.Prelude.{◌≡◌, ◌≢◌, ◌≤◌, ◌<◌, ◌+◌, ◌∷◌, ◌++◌, ℕ, List, [], true, false, length, take, drop, IfOk, OnOk, OnErr, ◌^◌};
+ghost use Rattle.std.specs.Prelude.{◌≡◌, ◌≢◌, ◌≤◌, ◌<◌, ◌+◌, ◌∷◌, ◌++◌, ℕ, List, [], true, false, length, take, drop, IfOk, ◌^◌, Some};
 ghost use Rattle.mv_terms.specs.UnitLists.{UnitLists, lent_unit};
 ghost use Rattle.mv_units.specs.Shape.{IsUnitSlices};
-ghost use Rattle.mv_units.specs.Units.{nothing_fed, cut_at, cut_of, taken, ready_unit, behind_ready, StandsFor, StaysDecided, Settles};
+ghost use Rattle.mv_units.specs.Gaps.{longer_end, zeros_left_out};
+ghost use Rattle.mv_units.specs.Units.{nothing_fed, cut_at, cut_of, next_of, ready_unit, behind_ready, StandsFor, StaysDecided, Settles};
 
-use crate::next::{Stage, at_end, decide, fresh_stage};
-use crate::parts::behind;
-use crate::walk::{Found, Next};
+use crate::gap::{Gap, Kept};
+use crate::stored::Stored;
+use crate::walk::Next;
 use mv_terms::{NoMemory, UnitParts, Why};
 use std::alloc::Global;
 use std::marker::Model;
@@ -24,72 +25,71 @@ pub enum Cut {
     Ended,
 }
 
-/// Cuts a stream that comes in pieces into its units.
+/// Cuts a stream that comes in pieces into its units. All its memory is taken at the start.
 #[derive(Drop)]
 pub struct Cutter {
-    store: Vec<u8>,
-    start: usize,
-    stage: Stage,
-    room: u64,
-    next: Next,
-    closed: bool,
+    kept: Kept,
 }
 
 impl Model for Cutter {
     ghost use Rattle.mv_units.specs.Units.{Fed};
-    ghost use Rattle.mv_units.specs.Steps.{fed_of, IsCut};
+    ghost use Rattle.mv_units.specs.Gaps.{IsGapped, widened};
 
     ghost Value = { Fed };
 
-    ghost view = { λ c. fed_of c.store.items c.start c.stage c.room c.closed };
+    ghost view = { λ c. widened c.kept.behind_slices (widened c.kept.behind_end c.kept.stored) };
 
-    ghost invariant = { λ c. IsCut c.store.items c.start c.stage c.room c.closed c.next };
+    ghost invariant = { λ c. IsGapped c.kept.stored c.kept.behind_slices c.kept.behind_end };
 }
 
-const STREAM_LIMIT: u64 = 1 << 44;
-
-const FIRST_ROOM: usize = 65_536;
-
 impl Cutter {
-    /// A cutter that was fed nothing.
+    /// A cutter that was fed nothing, with room for the longest unit.
     pub fn start(alloc: Global) -> Result<Cutter, NoMemory>
         ensures nothing { IfOk result (λ c. c ≡ nothing_fed) }
         ensures stands { IfOk result (λ c. StandsFor c [] []) }
     {
-        let store = empty_store(alloc)?;
         Ok(Cutter {
-            store,
-            start: 0,
-            stage: Stage::Zeros(0),
-            room: STREAM_LIMIT,
-            next: Next::More,
-            closed: false,
+            kept: Kept {
+                stored: Stored::start(alloc)?,
+                behind_slices: None,
+                behind_end: None,
+            },
         })
     }
 
     /// Takes the next piece of the stream, unless a unit or a refusal stands ready, and says how many bytes of it
     /// were taken; the others are to be fed again.
-    pub fn feed(&mut self, piece: &[u8]) -> Result<usize, NoMemory>
+    pub fn feed(&mut self, piece: &[u8]) -> usize
         requires { self.old.closed ≡ false }
-        ensures within { IfOk result (λ n. n ≤ length piece.now) }
-        ensures fed { IfOk result (λ n.
-            self.new ≡ record self.old { bytes = self.old.bytes ++ take n piece.now }) }
-        ensures ready { IfOk result (λ n. n < length piece.now → cut_of self.new ≢ Cut.More) }
-        ensures err { OnErr result (self.new ≡ self.old) }
-        ensures stands { IfOk result (λ n. (bytes : List ℕ) (let_go : List UnitLists) →
+        ensures within { result ≤ length piece.now }
+        ensures fed { self.new
+            ≡ record self.old { bytes = self.old.bytes ++ take result piece.now } }
+        ensures ready { result < length piece.now → cut_of self.new ≢ Cut.More }
+        ensures stands { (bytes : List ℕ) (let_go : List UnitLists) →
             StandsFor self.old bytes let_go →
-            StandsFor self.new (bytes ++ take n piece.now) let_go) }
+            StandsFor self.new (bytes ++ take result piece.now) let_go }
     {
-        let Next::More = self.next else {
-            return Ok(0);
-        };
-        self.store.extend_from_slice(piece).map_err(|_| NoMemory)?;
-        drop_front(&mut self.store, self.start);
-        self.start = 0;
-        let (stage, next) = decide(false, self.room, self.stage, &self.store);
-        self.stage = stage;
-        self.next = next;
-        Ok(piece.len())
+        let mut taken = 0;
+        'pieces: while taken < piece.len() {
+            let Cut::More = self.state() else {
+                break;
+            };
+            taken += self.take_front(&piece[taken..]);
+        }
+        taken
+    }
+
+    /// Takes some bytes of a piece, where nothing is decided, and says how many.
+    fn take_front(&mut self, piece: &[u8]) -> usize
+        requires closed { self.old.closed ≡ false }
+        requires more { cut_of self.old ≡ Cut.More }
+        requires some { 0 < length piece.now }
+        ensures some { 0 < result }
+        ensures within { result ≤ length piece.now }
+        ensures fed { self.new
+            ≡ record self.old { bytes = self.old.bytes ++ take result piece.now } }
+    {
+        self.kept.feed(piece)
     }
 
     /// Tells the end of the stream.
@@ -98,11 +98,7 @@ impl Cutter {
         ensures stands { (bytes : List ℕ) (let_go : List UnitLists) →
             StandsFor self.old bytes let_go → StandsFor self.new bytes let_go }
     {
-        let rest = behind(&self.store, self.start);
-        let (stage, next) = at_end(self.closed, self.room, self.stage, rest, self.next);
-        self.stage = stage;
-        self.next = next;
-        self.closed = true;
+        self.kept.stored.close();
     }
 
     /// What the bytes so far decide.
@@ -111,7 +107,7 @@ impl Cutter {
         ensures decided { StaysDecided self.now }
         ensures settles { Settles self.now result }
     {
-        cut_at(self.closed, self.next)
+        cut_at(self.kept.stored.is_closed(), self.kept.stored.next())
     }
 
     /// Lends the unit that stands ready.
@@ -121,18 +117,13 @@ impl Cutter {
         ensures slices { (bytes : List ℕ) (let_go : List UnitLists) →
             StandsFor self.now bytes let_go → IsUnitSlices result.slices.now }
     {
-        match self.next {
+        match self.kept.stored.next() {
             Next::Ready(found) => {
-                let rest = behind(&self.store, self.start);
-                let (prefix, rest) = rest.split_at(found.parts.prefix as usize);
-                let (head, rest) = rest.split_at(found.parts.head as usize);
-                let (slices, _) = rest.split_at(found.parts.slices as usize);
+                let unit = self.kept.stored.unit(&found);
                 UnitParts {
-                    prefix,
-                    head,
-                    slices,
-                    zeros: found.parts.zeros,
-                    end: found.end,
+                    zeros: unit.zeros + left_out(self.kept.behind_slices),
+                    end: longer_end(unit.end, left_out(self.kept.behind_end)),
+                    ..unit
                 }
             }
             _ => unreachable!(),
@@ -148,14 +139,10 @@ impl Cutter {
             StandsFor self.old bytes let_go →
             StandsFor self.new bytes (let_go ++ ready_unit self.old ∷ []) }
     {
-        if let Next::Ready(found) = self.next {
-            let len = taken(&found);
-            self.start += len;
-            self.room -= len as u64;
-            let rest = behind(&self.store, self.start);
-            let (stage, next) = decide(self.closed, self.room, fresh_stage(found.end), rest);
-            self.stage = stage;
-            self.next = next;
+        if let Next::Ready(found) = self.kept.stored.next() {
+            self.kept.stored.let_go(&found);
+            self.kept.behind_slices = None;
+            self.kept.behind_end = None;
         }
     }
 }
@@ -171,34 +158,20 @@ fn cut_at(closed: bool, next: Next) -> Cut
     }
 }
 
-/// A store of no bytes, with room for the first pieces.
-fn empty_store(alloc: Global) -> Result<Vec<u8>, NoMemory>
-    ensures { IfOk result (λ store. store.items ≡ []) }
+/// How many zero bytes aren't stored.
+fn left_out(gap: Option<Gap>) -> u64
+    ensures { result ≡ zeros_left_out gap }
 {
-    Vec::with_capacity(alloc, FIRST_ROOM).map_err(|_| NoMemory)
+    gap.map_or(0, |gap| gap.zeros)
 }
 
-/// How many bytes of the stream a unit takes.
-fn taken(found: &Found) -> usize
-    requires { taken found.now < 2 ^ 64 }
-    ensures { result ≡ taken found.now }
+/// The number of zero bytes behind an end code, where there is one, with so many more.
+fn longer_end(end: Option<u64>, zeros: u64) -> Option<u64>
+    requires { (n : ℕ) → end ≡ Some n → n + zeros < 2 ^ 64 }
+    ensures { result ≡ longer_end zeros end }
 {
-    let parts = found.parts;
-    let unit = parts.prefix + parts.head + parts.slices + parts.zeros;
-    match found.end {
-        None => unit as usize,
-        Some(zeros) => (unit + 4 + zeros) as usize,
-    }
-}
-
-/// Lets the first bytes of the store go.
-fn drop_front(store: &mut Vec<u8>, len: usize)
-    requires { len ≤ length store.old.items }
-    ensures { store.new.items ≡ drop len store.old.items }
-{
-    if 0 < len {
-        let left = store.len() - len;
-        store.copy_within(len.., 0);
-        store.truncate(left);
+    match end {
+        None => None,
+        Some(count) => Some(count + zeros),
     }
 }
