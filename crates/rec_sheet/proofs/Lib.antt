@@ -1,0 +1,4 @@
+mod PlaceLemmas
+mod ReadLemmas
+mod WriteLemmas
+mod OneLemmas
