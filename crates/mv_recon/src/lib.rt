@@ -19,11 +19,12 @@ mod block;
 mod laws;
 mod layout;
 
-use block::{kind_of, samples_of};
+use block::samples_of;
 pub use laws::{locality_law, samples_law};
 use layout::{put_chroma, put_luma};
 use mv_planes::{Picture, Plane, RefPair};
 use mv_predict::{MacroSamples, predict};
+use mv_quant::kind_of;
 use mv_terms::{Decision, Head, MacroLevels};
 
 /// Writes the picture of these macroblocks (H.262, 7.4 to 7.6.8), predicted from these references, into a picture of its
