@@ -1,1 +1,6 @@
 pub mod FrameBytes
+pub mod Buried
+pub mod Exhumed
+pub mod Seals
+pub mod Laws
+pub mod Steps

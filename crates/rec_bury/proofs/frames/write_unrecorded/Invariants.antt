@@ -1,7 +1,7 @@
 use Rattle.std.proofs.Common.{◌≡◌, ◌*◌, length, take}
 use Rattle.std.specs.List.{flat_map}
 use Rattle.y4m_frames.specs.FrameFile.{sample_bytes}
-use Rattle.rec_bury.proofs.write_unrecorded.Given as goal
+use Rattle.rec_bury.proofs.frames.write_unrecorded.Given as goal
 
 abbrev pub invariant-samples : goal.invariant-samples
 invariant-samples l = record {

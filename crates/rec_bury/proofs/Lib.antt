@@ -1,0 +1,11 @@
+mod WriteLemmas
+mod PairLemmas
+mod ChromaLemmas
+mod FrameLemmas
+mod ExhumeLemmas
+mod BackLemmas
+mod PieceLemmas
+mod ZeroLemmas
+mod HoldLemmas
+mod SourceLemmas
+mod PlainLemmas
