@@ -1,10 +1,10 @@
 -- How a stream ends.
-use Rattle.std.proofs.Common.{◌≡◌, ◌≢◌, ◌≤◌, ◌<◌, ℕ, ◌+◌, ◌-◌, Bool, true, false, List, [], ◌∷◌, ◌++◌, length, take, drop, Option, None, Some, inl, inr, refl, sym, ap, ◌∙◌, subst, append_assoc, append-nil, arith}
+use Rattle.std.proofs.Common.{◌≡◌, ◌≤◌, ◌<◌, ℕ, ◌+◌, ◌-◌, Bool, true, false, List, [], ◌∷◌, ◌++◌, length, take, drop, Option, None, Some, inl, inr, refl, sym, ap, ◌∙◌, subst, append_assoc, append-nil, arith}
 use Rattle.std.proofs.lemmas.List.{length-append, length-drop, take_at}
-use Rattle.std.specs.Io.KnownBytes.{Appends, Consumes, IsAtEnd, Keeps}
+use Rattle.std.specs.Io.KnownBytes.{Appends, IsAtEnd, Keeps}
 use Rattle.mv_ends.specs.Causes.{Counts}
 use Rattle.mv_ends.specs.Ends.{Outcome, Ends, open_fault}
-use Rattle.mv_ends.specs.Moves.{Inputs, input_of, AppendsPart, AppendsFront}
+use Rattle.mv_ends.specs.Moves.{Inputs, input_of, AppendsFront}
 use Rattle.mv_ends.proofs.Known.{Appends-trans, Keeps-Appends, Counts-trans}
 use Rattle.mv_ends.proofs.Parts.{none_of, all_of}
 use Rattle.mv_terms.specs.declared.status.Why.{Why}
@@ -15,17 +15,17 @@ use Rattle.mv_slices.specs.Slices.{IsCodedOrRefused}
 use Rattle.mv_units.specs.declared.cutter.Cut.TheVariants as cuts
 use Rattle.mv_units.specs.declared.walk.Next.{Next}
 use Rattle.mv_units.specs.declared.walk.Next.TheVariants.{More, Ready, Refused}
-use Rattle.mv_units.specs.Units.{Units, Fed, cut_at, cut_of, next_of, ready_unit, behind_ready, units_left, Settles, open_stream, units_within}
+use Rattle.mv_units.specs.Units.{Units, Fed, cut_at, cut_of, next_of, ready_unit, behind_ready, units_left, Settles, open_stream}
 use Rattle.mv_units.specs.Profile.{CodedUnit, Judged, HasUnits, Accepts, Refuses, heads_in}
 use Rattle.cert_picture.specs.FrameFileOf.{frame_behind, frames_of, gives, due, held_frame, file_front, frame_file_of, due_to}
 use Rattle.cert_picture.proofs.FrameFileLaws.{due_next, due_grows, file_is_due_and_held}
 use Rattle.job_decode.specs.declared.work.Work.{Work}
-use Rattle.job_decode.specs.Stream.{IsOutcome, status_by, outcome_of, units_shown, first_units, piece_limit, IsNear, ReadsNear, TakesNear, AppendsTaken}
-use Rattle.job_decode.specs.Steps.{IsFed, IsTaken, WorkStands, Takes, Finishes, EndsStream}
+use Rattle.job_decode.specs.Stream.{IsOutcome, status_by, outcome_of, units_shown, first_units, TakesNear}
+use Rattle.job_decode.specs.Steps.{WorkStands, Takes, Finishes, EndsStream}
 use Rattle.job_decode.proofs.OutcomeLaws.{each_has_one}
 use Rattle.job_decode.proofs.Growth.{first_are, few_units}
 use Rattle.job_decode.proofs.Sends.{front_first, front_behind}
-use Rattle.job_decode.proofs.Turns.{Turn, AreJudged, Begins, begins, settled, wrong, fed_next, follows, judged_next}
+use Rattle.job_decode.proofs.Turns.{Turn, begins, settled, wrong, fed_next, follows, judged_next}
 
 -- ---- the bytes appended
 
@@ -57,6 +57,7 @@ ends_whole named name rest old new before None has end written = record {
   kind = tt;
   ends = λ inputs told. (outcome_of (input_of inputs name) (record { units = before; refusal = None }), (record { units = before; refusal = None }, has inputs told, refl), (refl, written));
   done = λ e. end refl;
+  no_memory = λ e. absurd cc;
   read_part = λ e. absurd cc;
   near = λ e. absurd cc;
 }
@@ -64,6 +65,7 @@ ends_whole named name rest old new before (Some why) has end written = record {
   kind = tt;
   ends = λ inputs told. (outcome_of (input_of inputs name) (record { units = before; refusal = Some why }), (record { units = before; refusal = Some why }, has inputs told, refl), (refl, written));
   done = λ e. absurd cc;
+  no_memory = λ e. absurd cc;
   read_part = λ e. absurd cc;
   near = λ e. absurd cc;
 }
@@ -76,6 +78,7 @@ ends_by_write named name rest old new has near = record {
   kind = tt;
   ends = λ inputs told. (let h = has inputs told in (outcome_of (input_of inputs name) h.0, (h.0, h.1, refl), h.2));
   done = λ e. absurd cc;
+  no_memory = λ e. absurd cc;
   read_part = λ e. absurd cc;
   near = λ e. near;
 }
@@ -149,6 +152,7 @@ no_memory law named name rest old new keeps = record {
   kind = tt;
   ends = λ inputs told. (let one = each_has_one law (input_of inputs name) in (one.outcome, one.is, none_of old new one.outcome.output keeps));
   done = λ e. absurd cc;
+  no_memory = λ e. keeps;
   read_part = λ e. absurd cc;
   near = λ e. absurd cc;
 }
@@ -230,6 +234,7 @@ unread law named name rest fed unfed work count old new t settles empty =
             ),
           ));
       done = λ e. absurd cc;
+      no_memory = λ e. absurd cc;
       read_part = λ e inputs told left rest_is. (
           let taken = t.is_fed.told inputs told in
           let b = begins law (input_of inputs name) rest fed unfed t.is_fed.past t.let_go t.before t.are_judged t.is_fed.stands taken in
@@ -243,26 +248,6 @@ unread law named name rest fed unfed work count old new t settles empty =
           ));
       near = λ e. absurd cc;
     }
-
--- what is written so far is a front of the output
-pub out_of_memory : IsCodedOrRefused → (named : Option Inputs) (name : List ℕ) (rest now : Option (List ℕ)) (fed : Fed) (unfed : List ℕ) (work : Option Work) (count : ℕ) (old new : Option (List ℕ)) → (t : Turn named name rest fed unfed work count old new)
-    → EndsStream named name now old new status.NoMemory
-out_of_memory law named name rest now fed unfed work count old new t = record {
-  kind = tt;
-  ends = λ inputs told. (
-      let b = begins law (input_of inputs name) rest fed unfed t.is_fed.past t.let_go t.before t.are_judged t.is_fed.stands (t.is_fed.told inputs told) in
-      let grows = due_grows b.more t.before in
-      let file : frame_file_of b.judged.units ≡ due t.before ++ (grows.0 ++ held_frame (b.more ++ t.before)) =
-      ap (λ (us : List CodedUnit). frame_file_of us) b.units_are
-      ∙ (file_is_due_and_held (b.more ++ t.before) ∙ (ap (λ (s : List ℕ). s ++ held_frame (b.more ++ t.before)) grows.1 ∙ append_assoc (due t.before) grows.0 (held_frame (b.more ++ t.before)))) in (
-        outcome_of (input_of inputs name) b.judged,
-        (b.judged, b.has, refl),
-        record { front = due t.before; back = grows.0 ++ held_frame (b.more ++ t.before); parts = file; grown = t.written },
-      ));
-  done = λ e. absurd cc;
-  read_part = λ e. absurd cc;
-  near = λ e. absurd cc;
-}
 
 -- ---- nothing is written
 

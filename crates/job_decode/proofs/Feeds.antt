@@ -1,6 +1,6 @@
 -- The bytes of a stream as they come.
-use Rattle.std.proofs.Common.{◌≡◌, ◌≢◌, ◌≤◌, ◌<◌, ℕ, zero, suc, ◌+◌, ◌-◌, Bool, true, false, List, [], ◌∷◌, ◌++◌, length, take, drop, Option, None, Some, inl, inr, refl, sym, ap, ◌∙◌, subst, append_assoc, append-nil, arith}
-use Rattle.std.specs.Prelude.{nat_le, if◌then◌else◌}
+use Rattle.std.proofs.Common.{◌≡◌, ◌≤◌, ◌<◌, ℕ, ◌+◌, ◌-◌, Bool, true, false, List, [], ◌++◌, length, take, drop, Option, None, Some, inl, inr, refl, sym, ap, ◌∙◌, subst, append_assoc, append-nil, arith}
+use Rattle.std.specs.Prelude.{if◌then◌else◌}
 use Rattle.std.proofs.lemmas.Bool.{cases_lt, lt-leb}
 use Rattle.std.proofs.lemmas.List.{length-append, take-append-le, take-append-drop, length-take, length-drop, drop-take, drop-drop}
 use Rattle.std.specs.Io.KnownBytes.{Consumes, IsAtEnd, Keeps}
@@ -16,7 +16,7 @@ use Rattle.mv_units.proofs.NextLaws.{ready_fits}
 use Rattle.mv_units.proofs.UnitTakes.{ready_takes}
 use Rattle.job_decode.specs.declared.piece.Piece.{Piece}
 use Rattle.job_decode.specs.Stream.{piece_limit}
-use Rattle.job_decode.specs.Steps.{IsFed, IsTaken, Fits, unfed, left_to_do}
+use Rattle.job_decode.specs.Steps.{IsFed, Fits, unfed, left_to_do}
 
 -- what is left of an input
 pub all_bytes : (input bytes : List ℕ) (rest : Option (List ℕ)) → Consumes (Some input) rest bytes → (left : List ℕ) × (rest ≡ Some left) × (input ≡ bytes ++ left)

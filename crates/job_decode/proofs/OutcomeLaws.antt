@@ -1,10 +1,10 @@
 -- Each stream has one outcome.
-use Rattle.std.proofs.Common.{◌≡◌, ℕ, List, sym, ap, ◌∙◌, refl}
+use Rattle.std.proofs.Common.{ap, ◌∙◌, refl}
 use Rattle.mv_slices.specs.Slices.{IsCodedOrRefused}
 use Rattle.mv_units.specs.Units.{stream_limit}
 use Rattle.mv_units.specs.Profile.{Judged}
 use Rattle.mv_units.proofs.JudgementLaws.{each_is_judged_once}
-use Rattle.job_decode.specs.Stream.{HasOneOutcome, EachHasOneOutcome, outcome_of}
+use Rattle.job_decode.specs.Stream.{EachHasOneOutcome, outcome_of}
 
 pub each_has_one : IsCodedOrRefused → EachHasOneOutcome
 each_has_one law bytes =

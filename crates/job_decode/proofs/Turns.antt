@@ -1,21 +1,21 @@
 -- How far a stream has come: the units that were let go, and what is written of them.
-use Rattle.std.proofs.Common.{◌≡◌, ◌≤◌, ◌<◌, ℕ, ◌+◌, ◌-◌, Bool, true, false, List, [], ◌∷◌, ◌++◌, length, take, drop, Option, None, Some, inl, inr, refl, sym, ap, ◌∙◌, subst, append_assoc, append-nil, arith}
+use Rattle.std.proofs.Common.{◌≡◌, ℕ, ◌+◌, true, List, [], ◌∷◌, ◌++◌, length, Option, None, Some, inl, inr, refl, sym, ap, ◌∙◌, subst, append_assoc, append-nil, arith}
 use Rattle.std.proofs.lemmas.List.{length-append}
-use Rattle.std.specs.Io.KnownBytes.{Appends, Consumes, IsAtEnd}
-use Rattle.mv_ends.specs.Moves.{Inputs, input_of, AppendsFront, Opens}
+use Rattle.std.specs.Io.KnownBytes.{Appends, IsAtEnd}
+use Rattle.mv_ends.specs.Moves.{Inputs, Opens}
 use Rattle.mv_ends.proofs.Known.{Appends-trans}
 use Rattle.mv_terms.specs.declared.status.Why.{Why}
 use Rattle.mv_terms.specs.UnitLists.{UnitLists}
 use Rattle.mv_slices.specs.Slices.{IsCodedOrRefused}
 use Rattle.mv_units.specs.declared.cutter.Cut.TheVariants as cuts
-use Rattle.mv_units.specs.Units.{Units, Fed, units_left, units_of, nothing_fed, cut_of, ready_unit, behind_ready, StandsFor, AreAll, Settles, goes_on}
+use Rattle.mv_units.specs.Units.{Units, Fed, units_left, units_of, nothing_fed, cut_of, ready_unit, behind_ready, StandsFor, AreAll, goes_on}
 use Rattle.mv_units.specs.Profile.{CodedUnit, Judged, JudgedTo, HasUnits, Accepts, Refuses, heads_in}
 use Rattle.mv_units.proofs.JudgementLaws.{judged_to_one}
 use Rattle.cert_picture.specs.FrameFileOf.{frame_behind, frames_of, gives, due, due_to}
 use Rattle.cert_picture.proofs.FrameFileLaws.{due_next}
 use Rattle.job_decode.specs.declared.work.Work.{Work}
-use Rattle.job_decode.specs.Steps.{IsFed, IsTaken, WorkStands, Takes, TakesWhole}
-use Rattle.job_decode.proofs.Growth.{HasMore, judged_more}
+use Rattle.job_decode.specs.Steps.{IsFed, IsTaken, WorkStands, TakesWhole}
+use Rattle.job_decode.proofs.Growth.{judged_more}
 use Rattle.mv_units.proofs.CuttingLaws.{stands_for_next}
 use Rattle.job_decode.proofs.Feeds.{all_bytes, fed_starts}
 

@@ -1,22 +1,20 @@
 -- What a unit lets be shown, and what is held behind it.
-use Rattle.std.proofs.Common.{◌≡◌, ◌≢◌, ℕ, ◌*◌, Bool, true, false, List, [], ◌∷◌, ◌++◌, length, map, Option, None, Some, Result, Ok, Err, refl, sym, ap, ◌∙◌, subst, append-nil, arith}
+use Rattle.std.proofs.Common.{◌≡◌, ◌≢◌, ℕ, ◌*◌, Bool, true, false, List, [], ◌∷◌, ◌++◌, length, Option, None, Some, Result, Ok, Err, refl, sym, ap, ◌∙◌, subst, append-nil, arith}
 use Rattle.std.specs.Prelude.{if◌then◌else◌, is_some}
 use Rattle.std.specs.Io.KnownBytes.{Appends}
 use Rattle.mv_terms.specs.declared.status.Why.{Why}
 use Rattle.mv_terms.specs.declared.head.Context.{Context}
 use Rattle.mv_terms.specs.declared.head.PicType.{PicType}
 use Rattle.mv_terms.specs.declared.head.PicType.TheVariants as pic
-use Rattle.mv_terms.specs.CodedPicture.{CodedPicture}
 use Rattle.mv_terms.specs.PicTypes.{is_anchor}
 use Rattle.mv_terms.specs.Order.{anchors, first, held, listed, shows, holds}
 use Rattle.mv_terms.specs.UnitLists.{UnitLists}
 use Rattle.mv_terms.proofs.ShownLaws.{held_grows}
 use Rattle.mv_bits.specs.Elements.{are_elements}
 use Rattle.mv_bits.proofs.JoinLaws.{front_none}
-use Rattle.mv_heads.specs.declared.head_state.Heads.{Heads}
 use Rattle.mv_heads.specs.HeadsInTurn.{context_in}
 use Rattle.mv_units.specs.Shape.{IsUnitSlices}
-use Rattle.mv_units.specs.Profile.{CodedUnit, Accepts, Refuses, heads_in}
+use Rattle.mv_units.specs.Profile.{CodedUnit, Refuses, heads_in}
 use Rattle.mv_planes.specs.Planes.{Planes, IsWhole}
 use Rattle.mv_planes.specs.References.{DecodedPicture, type_of}
 use Rattle.mv_recon.specs.Decoded.{decoded_behind, references_behind}
@@ -26,7 +24,7 @@ use Rattle.mv_store.specs.declared.store.Shown.{Shown}
 use Rattle.mv_store.specs.declared.store.Shown.TheVariants.{Nothing, Previous, Current}
 use Rattle.mv_store.specs.Answers.{answer_to, answer_to_anchor}
 use Rattle.mv_decode.specs.Units.{pictures_in, FitsAsFirst}
-use Rattle.mv_decode.specs.Stands.{StandsFor as IsDecoderOf, DecodesUnit as DecoderDecodes, HasAccepted, IsLent}
+use Rattle.mv_decode.specs.Stands.{StandsFor as IsDecoderOf, DecodesUnit as DecoderDecodes, IsLent}
 use Rattle.rec_bury.specs.FrameBytes.{unrecorded}
 use Rattle.y4m_frames.specs.FrameFile.{frame}
 use Rattle.cert_picture.specs.FrameFileOf.{UnitFrame, pic_of_frame, pictures_in as pictures_of_frames, frame_behind, frames_of, bytes_of, opening, gives, held_frame}
@@ -34,7 +32,6 @@ use Rattle.cert_picture.proofs.FrameFileLaws.{frames_have_pictures}
 use Rattle.cert_picture.proofs.FrameBytesLaws.{unrecorded_length}
 use Rattle.mv_planes.specs.declared.coded.Coded.{Coded}
 use Rattle.mv_store.specs.Stored.{IsOfSize}
-use Rattle.mv_ends.specs.Moves.{AppendsFront}
 use Rattle.job_decode.specs.declared.work.Work.{Work}
 use Rattle.job_decode.specs.declared.work.Stop.{Stop}
 use Rattle.job_decode.specs.declared.work.Stop.TheVariants as stop

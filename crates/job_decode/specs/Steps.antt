@@ -9,18 +9,18 @@ use Rattle.mv_terms.specs.declared.status.Why.{Why}
 use Rattle.mv_terms.specs.declared.status.Status.{Status}
 use Rattle.mv_terms.specs.declared.status.Status.TheVariants as status
 use Rattle.mv_terms.specs.declared.head.Context.{Context}
-use Rattle.mv_terms.specs.Order.{held, listed}
+use Rattle.mv_terms.specs.Order.{held}
 use Rattle.mv_terms.specs.Rates.{frame_header_of}
 use Rattle.mv_terms.specs.UnitLists.{UnitLists}
 use Rattle.mv_units.specs.Units.{Fed, StandsFor, units_within}
-use Rattle.mv_units.specs.Profile.{CodedUnit, Judged, JudgedTo, Accepts, Refuses, heads_in}
+use Rattle.mv_units.specs.Profile.{CodedUnit, Accepts, Refuses, heads_in}
 use Rattle.mv_store.specs.declared.store.Shown.{Shown}
 use Rattle.mv_store.specs.declared.store.Shown.TheVariants.{Nothing, Previous, Current}
 use Rattle.mv_store.specs.Answers.{answer_to}
 use Rattle.mv_decode.specs.Stands.{StandsFor as IsDecoderOf}
 use Rattle.mv_decode.specs.Units.{FitsAsFirst}
 use Rattle.y4m_frames.specs.FrameFile.{frame, header_line}
-use Rattle.cert_picture.specs.FrameFileOf.{UnitFrame, pic_of_frame, frame_behind, frames_of, gives, due, held_frame}
+use Rattle.cert_picture.specs.FrameFileOf.{UnitFrame, pic_of_frame, frame_behind, frames_of, gives, held_frame}
 use Rattle.job_decode.specs.declared.work.Work.{Work}
 use Rattle.job_decode.specs.declared.work.Stop.{Stop}
 use Rattle.job_decode.specs.declared.work.Stop.TheVariants as stop
@@ -191,5 +191,6 @@ pub record EndsStream (named : Option Inputs) (name : List ℕ) (rest old new : 
       (λ inputs. (outcome : Outcome Status) × IsOutcome (input_of inputs name) outcome
       × Ends outcome (ending_of result) old new)
   pub done : result ≡ status.Done → IsAtEnd rest
+  pub no_memory : result ≡ status.NoMemory → Keeps old new
   pub read_part : result ≡ status.ReadFault → AppendsTaken name named rest old new
   pub near : result ≡ status.WriteFault → TakesNear name named rest old new

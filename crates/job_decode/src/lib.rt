@@ -29,7 +29,7 @@ use std::alloc::Global;
 /// are shown (H.262, 6.1.1.11), up to the first unit that is refused.
 ///
 /// The input may be of any length up to 2^44 bytes. It is read in pieces of at most 65,536 bytes, each when it is
-/// needed, and each frame is written as soon as it is shown.
+/// needed, and each frame is written as soon as it is shown. All memory is taken before the first byte is written.
 pub fn decode_job<S: Shelf, O: Sink>(
     alloc: Global,
     name: &str,
@@ -42,9 +42,11 @@ pub fn decode_job<S: Shelf, O: Sink>(
         × Ends outcome (ending_of result) (O.written out.old) (O.written out.new)) }
     ensures done { result ≡ Status.Done → IsAtEnd (S.rest shelf.new) }
 
-    // Also where they aren't told, no other statuses come, and nothing is written where the input isn't opened.
+    // Also where they aren't told, no other statuses come, and nothing is written where the input isn't opened or memory
+    // is wanting.
     ensures kind { IsDecodeStatus result }
     ensures unopened { result ≡ Status.OpenFault → Keeps (O.written out.old) (O.written out.new) }
+    ensures no_memory { result ≡ Status.NoMemory → Keeps (O.written out.old) (O.written out.new) }
 
     // After a read fault exactly that stands on the output which is due to the bytes that were taken.
     ensures read_part { result ≡ Status.ReadFault

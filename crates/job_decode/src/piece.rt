@@ -1,5 +1,5 @@
 //! The bytes of a stream: read a piece at a time, and fed to the cutter.
-ghost use Rattle.std.specs.Prelude.{◌≡◌, ◌<◌, List, [], ℕ, Option, IfOk, OnOk, IsErrOf, length};
+ghost use Rattle.std.specs.Prelude.{◌≡◌, ◌<◌, List, [], ℕ, Option, IfOk, OnOk, OnErr, length};
 ghost use Rattle.mv_units.specs.Units.{cut_of};
 ghost use Rattle.mv_ends.specs.Causes.{RoseForSelected};
 ghost use Rattle.mv_ends.specs.Moves.{Inputs};
@@ -8,20 +8,13 @@ ghost use Rattle.mv_terms.specs.UnitLists.{UnitLists};
 ghost use Rattle.job_decode.specs.Steps.{Fits, IsFed, left_to_do, unfed};
 ghost use Rattle.job_decode.specs.Stream.{piece_limit};
 
-use mv_ends::Shelf;
+use mv_ends::{Failed, Shelf};
 use mv_terms::NoMemory;
 use mv_units::{Cut, Cutter};
 use std::alloc::Global;
 
 /// The most bytes of an input that are read at once.
 const PIECE_LIMIT: usize = 65_536;
-
-/// What keeps a cutter from being brought on.
-#[derive(Clone, Copy, Debug, PartialEq, Eq)]
-pub(crate) enum Halt {
-    NoMemory,
-    ReadFault,
-}
 
 /// The bytes that were read last, up to `end`; those from `at` on aren't fed yet.
 #[derive(Drop)]
@@ -46,12 +39,12 @@ impl Piece {
 }
 
 /// Brings the cutter on, where it waits for bytes: feeds it what is left of the piece, or reads the next piece where all
-/// of it is fed, or tells it the end.
+/// of it is fed, or tells it the end. It fails only where reading does.
 pub(crate) fn advance<S: Shelf>(
     shelf: &mut S,
     piece: &mut Piece,
     cutter: &mut Cutter,
-) -> Result<(), Halt>
+) -> Result<(), Failed>
     requires more { cut_of cutter.old ≡ Cut.More }
     requires fits { Fits piece.old cutter.old }
     ensures fed { (named : Option Inputs) (name : List ℕ) (let_go : List UnitLists)
@@ -60,25 +53,17 @@ pub(crate) fn advance<S: Shelf>(
     ensures fits { OnOk result (Fits piece.new cutter.new) }
     ensures room { cutter.new.room ≡ cutter.old.room }
     ensures less { OnOk result (left_to_do piece.new cutter.new < left_to_do piece.old cutter.old) }
-    ensures none { IsErrOf result Halt.ReadFault → (unfed piece.new ≡ [])
-        × (cutter.new ≡ cutter.old) }
-    ensures failed { IsErrOf result Halt.ReadFault
-        → RoseForSelected (S.selected shelf.old) (S.read_faults shelf.old)
-        (S.read_faults shelf.new) }
+    ensures none { OnErr result ((unfed piece.new ≡ []) × (cutter.new ≡ cutter.old)) }
+    ensures failed { OnErr result
+        (RoseForSelected (S.selected shelf.old) (S.read_faults shelf.old) (S.read_faults shelf.new)) }
     ensures chosen { S.selected shelf.new ≡ S.selected shelf.old }
     ensures kept { KeepsShelf S.named S.open_faults S.read_faults shelf.old shelf.new }
 {
     if piece.at < piece.end {
-        match cutter.feed(&piece.bytes[piece.at..piece.end]) {
-            Ok(count) => piece.at += count,
-            Err(_) => return Err(Halt::NoMemory),
-        }
+        piece.at += cutter.feed(&piece.bytes[piece.at..piece.end]);
         return Ok(());
     }
-    let count = match shelf.read(&mut piece.bytes) {
-        Ok(count) => count,
-        Err(_) => return Err(Halt::ReadFault),
-    };
+    let count = shelf.read(&mut piece.bytes)?;
     piece.at = 0;
     piece.end = count;
     if count == 0 {

@@ -6,7 +6,7 @@ ghost use Rattle.mv_ends.specs.Moves.{Opens};
 ghost use Rattle.mv_ends.specs.Shelves.{KeepsShelf};
 ghost use Rattle.job_decode.specs.Steps.{EndsStream};
 
-use crate::piece::{Halt, Piece, advance};
+use crate::piece::{Piece, advance};
 use crate::work::{Stop, finish, take_unit};
 use mv_ends::{Shelf, Sink};
 use mv_terms::Status;
@@ -46,8 +46,7 @@ pub(crate) fn decode_stream<S: Shelf, O: Sink>(
         match cutter.state() {
             Cut::More => match advance(shelf, &mut piece, &mut cutter) {
                 Ok(()) => {}
-                Err(Halt::ReadFault) => return Status::ReadFault,
-                Err(Halt::NoMemory) => return Status::NoMemory,
+                Err(_) => return Status::ReadFault,
             },
             Cut::Ready => {
                 let unit = cutter.unit();

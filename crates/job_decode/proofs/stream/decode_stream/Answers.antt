@@ -1,8 +1,8 @@
-use Rattle.std.proofs.Common.{◌≡◌, ◌+◌, ◌-◌, ℕ, List, [], take, drop, length, ap, sym, ◌∙◌, refl, arith, rules, subst, None, Err}
-use Rattle.mv_ends.proofs.Known.{Counts-trans}
+use Rattle.std.proofs.Common.{◌≡◌, ℕ, List, length, ap, sym, ◌∙◌, refl, arith, rules, subst, None, Err}
+use Rattle.mv_ends.proofs.Known.{Counts-trans, failed_later}
 use Rattle.mv_terms.specs.declared.status.Why.{Why}
 use Rattle.mv_terms.specs.declared.status.Status.TheVariants as status
-use Rattle.mv_terms.specs.UnitLists.{UnitLists, lent_unit}
+use Rattle.mv_terms.specs.UnitLists.{lent_unit}
 use Rattle.mv_slices.proofs.SliceLaws.{coded_or_refused}
 use Rattle.mv_units.specs.declared.cutter.Cut.TheVariants as cuts
 use Rattle.mv_units.specs.Units.{Fed, Settles}
@@ -12,7 +12,7 @@ use Rattle.job_decode.specs.Steps.{StepsTo, WorkStands, Finishes, unfed}
 use Rattle.job_decode.proofs.Works.{are_their_elements}
 use Rattle.job_decode.proofs.Feeds.{none_unfed, next_fits, next_counted, next_less}
 use Rattle.job_decode.proofs.Turns.{Turn, turn_starts, turn_advances, turn_accepts}
-use Rattle.job_decode.proofs.Exits.{nothing_yet, out_of_memory, unread, unit_refused, no_memory_yet, unit_unwritten, cut_settled, cut_ended, counts_kept, exit_counts, still_written}
+use Rattle.job_decode.proofs.Exits.{nothing_yet, unread, unit_refused, no_memory_yet, unit_unwritten, cut_settled, cut_ended, counts_kept, exit_counts, still_written}
 use Rattle.job_decode.proofs.stream.decode_stream.Goals as goal
 
 pub returns-in_default-clause-ends : goal.returns-in_default-clause-ends
@@ -46,19 +46,13 @@ units-init g c =
       counts = search rules;
     }
 
-pub returns-in-Err-ReadFault-clause-ends : goal.returns-in-Err-ReadFault-clause-ends
-returns-in-Err-ReadFault-clause-ends g c =
+pub returns-in-Err-clause-ends : goal.returns-in-Err-clause-ends
+returns-in-Err-clause-ends g c =
     let turn = turn_advances (g.S.Shelf.named c.args.shelf.now) c.args.name.now (g.S.Shelf.rest c.units.shelf) (g.S.Shelf.rest c.advance.new.shelf) c.units.cutter c.advance.new.cutter (unfed c.units.piece) (unfed c.advance.new.piece) c.units.work c.units.count
-    (g.O.Sink.written c.args.out.now) (g.O.Sink.written c.units.out) c.units.invariant.turn (λ let_go so. c.in-Err-ReadFault.ensures.fed (g.S.Shelf.named c.args.shelf.now) c.args.name.now let_go so) in
-    let none = c.in-Err-ReadFault.ensures.none (ap Err c.in-Err-ReadFault.field-0-is) in
+    (g.O.Sink.written c.args.out.now) (g.O.Sink.written c.units.out) c.units.invariant.turn (λ let_go so. c.in-Err.ensures.fed (g.S.Shelf.named c.args.shelf.now) c.args.name.now let_go so) in
     unread coded_or_refused (g.S.Shelf.named c.args.shelf.now) c.args.name.now (g.S.Shelf.rest c.advance.new.shelf) c.advance.new.cutter (unfed c.advance.new.piece) c.units.work c.units.count
     (g.O.Sink.written c.args.out.now) (g.O.Sink.written c.units.out) turn
-    (subst (λ (f : Fed). Settles f cuts.More) (sym none.1) c.in-More.ensures.settles) none.0
-
-pub returns-in-Err-NoMemory-clause-ends : goal.returns-in-Err-NoMemory-clause-ends
-returns-in-Err-NoMemory-clause-ends g c =
-    out_of_memory coded_or_refused (g.S.Shelf.named c.args.shelf.now) c.args.name.now (g.S.Shelf.rest c.units.shelf) (g.S.Shelf.rest c.advance.new.shelf) c.units.cutter (unfed c.units.piece) c.units.work c.units.count
-    (g.O.Sink.written c.args.out.now) (g.O.Sink.written c.units.out) c.units.invariant.turn
+    (subst (λ (f : Fed). Settles f cuts.More) (sym c.in-Err.ensures.none.1) c.in-More.ensures.settles) c.in-Err.ensures.none.0
 
 pub take_unit-requires-clause-elements : goal.take_unit-requires-clause-elements
 take_unit-requires-clause-elements g c =
@@ -84,11 +78,11 @@ returns-in-Err-Refused-clause-count g c =
     (counts_kept _ _ _ _ _ (g.O.Sink.written c.args.out.now) (g.O.Sink.written c.units.out) (g.O.Sink.written c.take_unit.new.out) (due turn.before) c.units.invariant.counts c.units.invariant.room c.in-Err-Refused.ensures.count turn.written said.2)
     (c.in-Err-Refused.ensures.same_room ∙ c.units.invariant.room) c.finish.ensures.count (still_written _ _ _ _ turn.written said.2) said.1 c.finish.ensures.ends
 
-pub returns-in-Err-NoMemory-take_unit-clause-ends : goal.returns-in-Err-NoMemory-take_unit-clause-ends
-returns-in-Err-NoMemory-take_unit-clause-ends g c =
+pub returns-in-Err-NoMemory-clause-ends : goal.returns-in-Err-NoMemory-clause-ends
+returns-in-Err-NoMemory-clause-ends g c =
     let turn = c.units.invariant.turn in
     let said = subst (λ (stop : Stop). StepsTo (λ units. WorkStands c.take_unit.new.work units) turn.before (lent_unit c.unit-unit.result) (g.O.Sink.written c.units.out) (g.O.Sink.written c.take_unit.new.out) (Err stop))
-    c.in-Err-NoMemory-take_unit.field-0-is (c.in-Err-NoMemory-take_unit.ensures.steps turn.before turn.stands) in
+    c.in-Err-NoMemory.field-0-is (c.in-Err-NoMemory.ensures.steps turn.before turn.stands) in
     no_memory_yet coded_or_refused (g.S.Shelf.named c.args.shelf.now) c.args.name.now (g.S.Shelf.rest c.units.shelf) c.units.cutter (unfed c.units.piece) c.units.work c.units.count
     (g.O.Sink.written c.args.out.now) (g.O.Sink.written c.units.out) (g.O.Sink.written c.take_unit.new.out) turn said.0 said.1
 
@@ -123,6 +117,12 @@ returns-in-Refused-clause-ends g c =
     cut_settled (g.S.Shelf.named c.args.shelf.now) c.args.name.now (g.S.Shelf.rest c.units.shelf) c.units.cutter (unfed c.units.piece) c.units.work c.units.count c.finish-in-Refused.result
     (g.O.Sink.written c.args.out.now) (g.O.Sink.written c.units.out) (g.O.Sink.written c.finish-in-Refused.new.out) c.in-Refused.why c.units.invariant.turn c.in-Refused.ensures.settles c.finish-in-Refused.ensures.ends
 
+pub returns-in-Refused-clause-write_fault : goal.returns-in-Refused-clause-write_fault
+returns-in-Refused-clause-write_fault g c = λ fault.
+    let turn = c.units.invariant.turn in
+    failed_later _ _ _ _ _ (g.O.Sink.written c.args.out.now) (g.O.Sink.written c.units.out) (g.O.Sink.written c.finish-in-Refused.new.out) (due turn.before)
+    c.units.invariant.counts c.units.invariant.room (c.finish-in-Refused.ensures.failed fault) turn.written
+
 pub returns-in-Refused-clause-count : goal.returns-in-Refused-clause-count
 returns-in-Refused-clause-count g c =
     let turn = c.units.invariant.turn in
@@ -133,6 +133,12 @@ pub returns-in-Ended-clause-ends : goal.returns-in-Ended-clause-ends
 returns-in-Ended-clause-ends g c =
     cut_ended (g.S.Shelf.named c.args.shelf.now) c.args.name.now (g.S.Shelf.rest c.units.shelf) c.units.cutter (unfed c.units.piece) c.units.work c.units.count c.finish-in-Ended.result
     (g.O.Sink.written c.args.out.now) (g.O.Sink.written c.units.out) (g.O.Sink.written c.finish-in-Ended.new.out) c.units.invariant.turn (sym c.in-Ended.ensures.value) c.in-Ended.ensures.settles c.finish-in-Ended.ensures.ends
+
+pub returns-in-Ended-clause-write_fault : goal.returns-in-Ended-clause-write_fault
+returns-in-Ended-clause-write_fault g c = λ fault.
+    let turn = c.units.invariant.turn in
+    failed_later _ _ _ _ _ (g.O.Sink.written c.args.out.now) (g.O.Sink.written c.units.out) (g.O.Sink.written c.finish-in-Ended.new.out) (due turn.before)
+    c.units.invariant.counts c.units.invariant.room (c.finish-in-Ended.ensures.failed fault) turn.written
 
 pub returns-in-Ended-clause-count : goal.returns-in-Ended-clause-count
 returns-in-Ended-clause-count g c =

@@ -1,4 +1,4 @@
-use Rattle.std.proofs.Common.{ℕ, [], Result, subst}
+use Rattle.std.proofs.Common.{[], Result, subst}
 use Rattle.std.specs.Result.{IfOk}
 use Rattle.mv_terms.specs.declared.head.Context.{Context}
 use Rattle.mv_terms.specs.declared.status.Why.{Why}

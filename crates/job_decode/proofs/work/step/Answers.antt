@@ -1,4 +1,3 @@
-use Rattle.std.proofs.Common.{ℕ, List}
 use Rattle.std.specs.Prelude.{option_copied}
 use Rattle.mv_ends.specs.Moves.{AppendsFront}
 use Rattle.mv_terms.specs.UnitLists.{lent_unit}

@@ -1,4 +1,4 @@
-use Rattle.std.proofs.Common.{◌≡◌, List, [], Option, sym, subst}
+use Rattle.std.proofs.Common.{◌≡◌, [], Option, sym, subst}
 use Rattle.mv_terms.specs.UnitLists.{lent_unit}
 use Rattle.job_decode.specs.declared.work.Work.{Work}
 use Rattle.job_decode.specs.Steps.{WorkStands}
