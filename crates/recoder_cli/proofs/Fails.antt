@@ -1,11 +1,11 @@
 -- What is known where an endpoint of a command fails.
-use Rattle.std.proofs.Common.{◌≡◌, ℕ, List, Option, sym, subst, ◌⊎◌, inl, inr}
+use Rattle.std.proofs.Common.{◌≡◌, ℕ, List, Option, sym, subst, inl, inr}
 use Rattle.mv_ends.specs.Causes.{Rose}
 use Rattle.mv_ends.specs.Moves.{Inputs}
 use Rattle.job_decode.specs.Stream.{AppendsTaken, TakesNear}
 use Rattle.recoder_cli.specs.Words.{Form, decode, cut}
-use Rattle.cut_list.specs.Cut.{FailsToOpenCut, FailsToReadCut}
-use Rattle.recoder_cli.specs.Outcomes.{FailsToOpen, FailsToRead, FailsToWrite}
+use Rattle.std.specs.Io.KnownBytes.{Keeps}
+use Rattle.recoder_cli.specs.Outcomes.{FailsToOpen, FailsToRead, FailsToWrite, LacksMemory}
 
 -- so many bytes of the input that `decode` names were taken
 pub decode_fails_to_read : (form : Form) (name : List ℕ) (named : Option Inputs) (rest : Option (List ℕ)) (before now : List ℕ → ℕ) (old new : Option (List ℕ))
@@ -16,6 +16,10 @@ decode_fails_to_read form name named rest before now old new is rose part =
 -- it was taken no further
 pub decode_fails_to_write : (form : Form) (name : List ℕ) (named : Option Inputs) (rest old new : Option (List ℕ)) → form ≡ decode name → TakesNear name named rest old new → FailsToWrite form named rest old new
 decode_fails_to_write form name named rest old new is near = subst (λ (f : Form). FailsToWrite f named rest old new) (sym is) near
+
+-- and nothing was written
+pub decode_lacks_memory : (form : Form) (name : List ℕ) (old new : Option (List ℕ)) → form ≡ decode name → Keeps old new → LacksMemory form old new
+decode_lacks_memory form name old new is keeps = subst (λ (f : Form). LacksMemory f old new) (sym is) keeps
 
 -- the faults of some name rose
 pub opening_rose : (form : Form) (named : Option Inputs) (before now : List ℕ → ℕ) (old new : Option (List ℕ)) → FailsToOpen form named before now old new → (name : List ℕ) × Rose (before name) (now name)

@@ -39,6 +39,11 @@ FailsToRead (decode name) named rest before now old new =
     Rose (before name) (now name) × AppendsTaken name named rest old new
 FailsToRead (cut list) named rest before now old new = FailsToReadCut list named before now old new
 
+-- Memory was wanting: `decode` takes all of it before it writes anything.
+abbrev pub LacksMemory : Form → Option (List ℕ) → Option (List ℕ) → Type 0
+LacksMemory (decode name) old new = Keeps old new
+LacksMemory (cut list) old new = ⊤
+
 -- The output couldn't be written: `decode` hasn't taken its input far ahead of what was.
 abbrev pub FailsToWrite : Form → Option Inputs → Option (List ℕ) → Option (List ℕ) → Option (List ℕ)
     → Type 0

@@ -6,7 +6,7 @@ ghost use Rattle.mv_ends.specs.Shelves.{KeepsShelf};
 ghost use Rattle.mv_ends.specs.Ends.{Ends, Outcome};
 ghost use Rattle.mv_ends.specs.Endings.{ending_of};
 ghost use Rattle.recoder_cli.specs.Commands.{form_given};
-ghost use Rattle.recoder_cli.specs.Outcomes.{FailsToOpen, FailsToRead, FailsToWrite, IsDoneOver, IsOutcomeOf, IsStatusOf};
+ghost use Rattle.recoder_cli.specs.Outcomes.{FailsToOpen, FailsToRead, FailsToWrite, IsDoneOver, IsOutcomeOf, IsStatusOf, LacksMemory};
 
 use crate::words::Command;
 use cut_list::cut_job;
@@ -39,6 +39,8 @@ pub fn perform<S: Shelf, O: Sink>(
         (O.room out.old) (O.written out.old) (O.written out.new) }
     ensures unwritten { result ≡ Status.WriteFault → FailsToWrite (form_given command.now)
         (S.named shelf.old) (S.rest shelf.new) (O.written out.old) (O.written out.new) }
+    ensures no_memory { result ≡ Status.NoMemory
+        → LacksMemory (form_given command.now) (O.written out.old) (O.written out.new) }
     ensures same_room { O.room out.new ≡ O.room out.old }
     ensures count { Counts (O.faults out.old) (O.faults out.new)
         (O.room out.old) (O.written out.old) (O.written out.new) }

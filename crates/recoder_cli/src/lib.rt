@@ -22,7 +22,7 @@ ghost use Rattle.mv_ends.specs.Ends.{Ends, Outcome};
 ghost use Rattle.mv_terms.specs.Texts.{line_of};
 ghost use Rattle.mv_ends.specs.Endings.{ending_of};
 ghost use Rattle.recoder_cli.specs.Words.{form_of, texts};
-ghost use Rattle.recoder_cli.specs.Outcomes.{FailsToOpen, FailsToRead, FailsToWrite, IsDoneOver, IsOutcomeOf, IsStatusOf};
+ghost use Rattle.recoder_cli.specs.Outcomes.{FailsToOpen, FailsToRead, FailsToWrite, IsDoneOver, IsOutcomeOf, IsStatusOf, LacksMemory};
 ghost use Rattle.recoder_cli.specs.Said.{IsSaid};
 
 pub use clean::run_clean;
@@ -77,6 +77,8 @@ pub fn run<S: Shelf, O: Sink, M: Sink>(
         (O.room out.old) (O.written out.old) (O.written out.new) }
     ensures unwritten { result ≡ Status.WriteFault → ForSome (form_of (texts words.now)) (λ form.
         FailsToWrite form (S.named shelf.old) (S.rest shelf.new) (O.written out.old) (O.written out.new)) }
+    ensures no_memory { result ≡ Status.NoMemory → ForSome (form_of (texts words.now)) (λ form.
+        LacksMemory form (O.written out.old) (O.written out.new)) }
 
     // The line of the status is said, as far as no write to `say` fails.
     ensures said { IsSaid M.written M.faults M.room say.old say.new (line_of result) }
