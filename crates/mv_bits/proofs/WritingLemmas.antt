@@ -1,12 +1,12 @@
 -- Bits that were put, part by part.
-use Rattle.std.proofs.Common.{◌≡◌, ℕ, zero, suc, ◌+◌, ◌-◌, ◌*◌, ◌/◌, ◌%◌, ◌^◌, ◌<◌, ◌≤◌, Bool, false, List, [], ◌∷◌, ◌++◌, length, replicate, length-append, refl, ap, sym, ◌∙◌, subst, arith, append_assoc, add-zero}
+use Rattle.std.proofs.Common.{◌≡◌, ℕ, zero, suc, ◌+◌, ◌-◌, ◌*◌, ◌/◌, ◌%◌, ◌^◌, ◌<◌, ◌≤◌, Bool, false, List, [], ◌∷◌, ◌++◌, length, replicate, refl, ap, sym, ◌∙◌, subst, arith, append_assoc, add-zero}
 use Rattle.std.proofs.lemmas.List.{append-nil}
 use Rattle.std.proofs.lemmas.Nat.{pow-add, mod_low, shr_high, shl_whole, mul-add-lt, shr_below, one_shl, mod_below, pow_pos}
 use Rattle.std.proofs.Math.Nat.{zero-div}
 use Rattle.mv_bits.specs.Bits.{digits, bits_of}
 use Rattle.mv_bits.specs.Receivers.{HasPut}
 use Rattle.mv_bits.specs.Writing.{AreBytes, Writes, padding}
-use Rattle.mv_bits.proofs.BitLaws.{length-bits_of, length-digits}
+use Rattle.mv_bits.proofs.BitLaws.{length-digits}
 use Rattle.mv_bits.proofs.KeptLaws.{digits-mod, digits-add}
 
 pub bits_of-append : (xs ys : List ℕ) → bits_of (xs ++ ys) ≡ bits_of xs ++ bits_of ys
@@ -67,15 +67,22 @@ module _ {P Kind : Type 0} (stands : P → Kind → List ℕ → Type 0) where
       let k : count ≡ 8 + (count - 8) = omega arith in
       rw (one_shl (count - 8) 64 (omega arith)) (byte_more p q r xs (count - 8) bits (subst (λ (n : ℕ). Writes stands p q [] (digits n bits) xs) k v) h small)
 
-  -- where whole bytes were put, nothing is left
-  pub none_left : (p q : P) (a b xs : List Bool) → Writes stands p q a b xs → length a + length xs ≡ 8 → length b < 8 → b ≡ []
-  none_left p q a b xs w h k =
-      let e = ap length w.in_order in
-      nothing b (omega (arith, e, length-append (bits_of w.whole) b, length-append a xs, length-bits_of w.whole))
-    where
-      nothing : (bits : List Bool) → length bits ≡ 0 → bits ≡ []
-      nothing [] e = refl
-      nothing (b ∷ bits) e = absurd (omega (arith, e))
+  -- whole bytes leave nothing
+  pub all_put : (p q : P) (left count : ℕ) (xs : List Bool) → count ≡ 0 → Writes stands p q [] (digits count left) xs → Writes stands p q [] [] xs
+  unfolding digits
+  all_put p q left count xs e w = subst (λ (n : ℕ). Writes stands p q [] (digits n left) xs) e w
+
+  -- a whole word in front of what is left
+  pub word_put : (p q : P) (count bits : ℕ) → 32 ≤ count → count < 64 → Writes stands p q [] [] (digits 32 (bits / 2 ^ (count - 32)))
+      → Writes stands p q [] (digits (count - 32) (bits % (1 * 2 ^ (count - 32) % 2 ^ 64))) (digits count bits)
+  word_put p q count bits some few w =
+      let k : count ≡ 32 + (count - 32) = omega arith in
+      let low = rw (add-zero (count - 32)) at (digits-mod (count - 32) 0 bits) in
+      let rest : digits (count - 32) (bits % (1 * 2 ^ (count - 32) % 2 ^ 64)) ≡ digits (count - 32) bits = rw (one_shl (count - 32) 64 (omega arith)) low in
+      let whole : digits 32 (bits / 2 ^ (count - 32)) ++ digits (count - 32) bits ≡ digits count bits = sym (ap (λ (n : ℕ). digits n bits) k ∙ digits-add 32 (count - 32) bits) in
+      subst (λ (xs : List Bool). Writes stands p q [] (digits (count - 32) (bits % (1 * 2 ^ (count - 32) % 2 ^ 64))) xs) whole
+      (subst (λ (xs : List Bool). Writes stands p q [] xs (digits 32 (bits / 2 ^ (count - 32)) ++ digits (count - 32) bits)) (sym rest)
+      (Writes-append p q q [] [] (digits (count - 32) bits) _ _ w (Writes-start q (digits (count - 32) bits))))
 
 digits_below : (c n pending value : ℕ) → value < 2 ^ n → digits (c + n) (pending * 2 ^ n + value) ≡ digits c pending ++ digits n value
 digits_below c n pending value h =
@@ -83,11 +90,11 @@ digits_below c n pending value h =
     digits-add c n (pending * 2 ^ n + value) ∙ rw (shr_high pending n value h, low) refl
 
 -- the pending bits with the digits of a value behind them
-pub shifted_fits : (c n pending value : ℕ) → pending < 2 ^ c → c < 8 → n ≤ 32 → value < 2 ^ n → (pending * 2 ^ n) % 2 ^ 64 + value < 2 ^ (c + n)
+pub shifted_fits : (c n pending value : ℕ) → pending < 2 ^ c → c < 32 → n ≤ 32 → value < 2 ^ n → (pending * 2 ^ n) % 2 ^ 64 + value < 2 ^ (c + n)
 shifted_fits c n pending value p hc hn h =
     rw (shl_whole pending c n 64 p (omega arith), pow-add 2 c n) (omega (arith, mul-add-lt pending (2 ^ n) value (2 ^ c) p h))
 
-pub shifted_bits : (c n pending value : ℕ) → pending < 2 ^ c → c < 8 → n ≤ 32 → value < 2 ^ n → digits (c + n) ((pending * 2 ^ n) % 2 ^ 64 + value) ≡ digits c pending ++ digits n value
+pub shifted_bits : (c n pending value : ℕ) → pending < 2 ^ c → c < 32 → n ≤ 32 → value < 2 ^ n → digits (c + n) ((pending * 2 ^ n) % 2 ^ 64 + value) ≡ digits c pending ++ digits n value
 shifted_bits c n pending value p hc hn h = rw (shl_whole pending c n 64 p (omega arith)) (digits_below c n pending value h)
 
 pub byte_fits : (bits count : ℕ) → bits < 2 ^ count → 8 ≤ count → bits / 2 ^ (count - 8) < 2 ^ 8
@@ -101,17 +108,34 @@ unfolding digits
 digits_zero zero = refl
 digits_zero (suc n) = let e : 0 / 2 ^ n ≡ 0 = zero-div (2 ^ n) in rw (e, digits_zero n) refl
 
+pub word_fits : (bits count : ℕ) → bits < 2 ^ count → 32 ≤ count → bits / 2 ^ (count - 32) < 2 ^ 32
+word_fits bits count h e = shr_below bits 32 (count - 32) (let k : 32 + (count - 32) ≡ count = omega arith in rw k h)
+
+pub no_digits : (n v : ℕ) → n ≡ 0 → digits n v ≡ []
+unfolding digits
+no_digits n v e = ap (λ (m : ℕ). digits m v) e
+
 -- what `align` puts
-module _ (count number : ℕ) (pending : List Bool) (view : digits count number ≡ pending) where
-  pub count_is : length pending ≡ count
+module _ (count number free : ℕ) (pending : List Bool) (view : digits count number ≡ pending) (few : count < 32) (fits : number < 2 ^ count) (is_free : free ≡ (8 - count % 8) % 8) where
+  count_is : length pending ≡ count
   count_is = ap length (sym view) ∙ length-digits count number
 
-  pub padding_some : 0 < count → count < 8 → digits (8 - count) 0 ≡ padding pending
-  padding_some some few = let e : (8 - count % 8) % 8 ≡ 8 - count = omega arith in digits_zero (8 - count) ∙ rw (count_is, e) refl
+  padding_is : digits free 0 ≡ padding pending
+  padding_is = digits_zero free ∙ ap (λ (n : ℕ). replicate n false) (is_free ∙ ap (λ (n : ℕ). (8 - n % 8) % 8) (sym count_is))
 
-  pub padding_none : count ≡ 0 → padding pending ≡ []
-  padding_none none = let e : length pending ≡ 0 = count_is ∙ none in rw e refl
+  pub free_few : free < 8
+  free_few = omega (arith, is_free)
 
-  pub pending_none : count ≡ 0 → pending ≡ []
-  unfolding digits
-  pending_none none = sym view ∙ ap (λ (n : ℕ). digits n number) none
+  pub no_bits_left : (count + free) % 8 ≡ 0
+  no_bits_left = omega (arith, is_free)
+
+  pub padded_fits : (number * 2 ^ free) % 2 ^ 64 < 2 ^ (count + free)
+  padded_fits = rw (shl_whole number count free 64 fits (let f = free_few in omega (arith, f)), pow-add 2 count free) (mul_lt number (2 ^ free) (2 ^ count) fits (pow_pos free))
+    where
+      mul_lt : (a b c : ℕ) → a < c → 0 < b → a * b < c * b
+      mul_lt a b c h k = grind (arith, h, k)
+
+  pub padded : digits (count + free) ((number * 2 ^ free) % 2 ^ 64) ≡ pending ++ padding pending
+  padded =
+      rw (shl_whole number count free 64 fits (let f = free_few in omega (arith, f)))
+      (ap (digits (count + free)) (sym (add-zero (number * 2 ^ free))) ∙ digits_below count free number 0 (pow_pos free) ∙ ap (λ (xs : List Bool). xs ++ digits free 0) view ∙ ap (λ (xs : List Bool). pending ++ xs) padding_is)

@@ -1,14 +1,15 @@
 //! Bits that are put into a receiver of bytes.
-ghost use Rattle.std.specs.Prelude.{◌≡◌, ◌<◌, ◌≤◌, ◌^◌, [], length};
+ghost use Rattle.std.specs.Prelude.{◌≡◌, ◌<◌, ◌≤◌, ◌%◌, ◌^◌, [], length};
 ghost use Rattle.mv_bits.specs.Bits.{digits};
 ghost use Rattle.mv_bits.specs.Writing.{Writes, padding};
 
 use crate::put::Put;
 use std::marker::Model;
 
-/// The bits of a byte that isn't whole yet: the `count` lowest bits of `pending`, the highest first.
+/// The bits of a word of 32 that isn't whole yet: the `count` lowest bits of `pending`, the highest first.
 ///
-/// Whole bytes go at once into the receiver that each call names. Contracts see the list of the pending bits.
+/// The bytes of whole words go at once into the receiver that each call names, and those of whole bytes when the writer
+/// is aligned. Contracts see the list of the pending bits.
 #[derive(Drop)]
 pub struct BitWriter {
     pending: u64,
@@ -23,7 +24,7 @@ impl Model for BitWriter {
 
     ghost view = { λ w. digits w.count w.pending };
 
-    ghost invariant = { λ w. (w.count < 8) × (w.pending < 2 ^ w.count) };
+    ghost invariant = { λ w. (w.count < 32) × (w.pending < 2 ^ w.count) };
 }
 
 impl BitWriter {
@@ -41,16 +42,16 @@ impl BitWriter {
         }
     }
 
-    /// Puts a number of n bits, its high bit first.
+    /// Puts a number of n bits, its high bit first. Fewer than 32 bits stay pending.
     #[inline(always)]
     pub fn put<P: Put>(&mut self, value: u32, n: u32, to: &mut P)
         requires few { n ≤ 32 }
         requires fits { value < 2 ^ n }
         ensures written { Writes P.stands to.old to.new self.old self.new (digits n value) }
-        ensures part { length self.new < 8 }
+        ensures part { length self.new < 32 }
     {
         let bits = (self.pending << n) + value as u64;
-        let (pending, count) = put_whole(bits, self.count + n, to);
+        let (pending, count) = put_word(bits, self.count + n, to);
         self.pending = pending;
         self.count = count;
     }
@@ -60,11 +61,39 @@ impl BitWriter {
         ensures written { Writes P.stands to.old to.new self.old self.new (padding self.old) }
         ensures whole { self.new ≡ [] }
     {
-        let used = self.count;
-        if used > 0 {
-            self.put(0, 8 - used, to);
-        }
+        let free = (8 - self.count % 8) % 8;
+        let (pending, count) = put_whole(self.pending << free, self.count + free, to);
+        self.pending = pending;
+        self.count = count;
     }
+}
+
+/// Puts the first 32 of so many bits, where there are as many, and answers the bits that are left and how many these
+/// are.
+#[inline(always)]
+fn put_word<P: Put>(bits: u64, count: u32, to: &mut P) -> (u64, u32)
+    requires few { count < 64 }
+    requires fits { bits < 2 ^ count }
+    ensures written { Writes P.stands to.old to.new [] (digits result.1 result.0)
+        (digits count bits) }
+    ensures part { result.1 < 32 }
+    ensures fits { result.0 < 2 ^ result.1 }
+{
+    if count < 32 {
+        return (bits, count);
+    }
+    let left = count - 32;
+    put_four_bytes(bits >> left, to);
+    (bits % (1 << left), left)
+}
+
+/// Puts the four bytes of a word; not inlined, since `put` is, in many places.
+#[inline(never)]
+fn put_four_bytes<P: Put>(word: u64, to: &mut P)
+    requires { word < 2 ^ 32 }
+    ensures { Writes P.stands to.old to.new [] [] (digits 32 word) }
+{
+    put_whole(word, 32, to);
 }
 
 /// Puts the whole bytes of so many bits, and answers the bits that are left and how many these are.
@@ -74,7 +103,7 @@ fn put_whole<P: Put>(mut bits: u64, mut count: u32, to: &mut P) -> (u64, u32)
     requires fits { bits < 2 ^ count }
     ensures written { Writes P.stands to.old to.new [] (digits result.1 result.0)
         (digits count bits) }
-    ensures part { result.1 < 8 }
+    ensures left { result.1 ≡ count % 8 }
     ensures fits { result.0 < 2 ^ result.1 }
 {
     'bytes: while count >= 8 {
