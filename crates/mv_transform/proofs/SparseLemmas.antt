@@ -1,6 +1,6 @@
--- The inverse of a block by those of its rows that aren't zero, the last row first.
-use Rattle.std.proofs.Common.{◌≡◌, ℕ, zero, suc, ◌+◌, ◌*◌, ◌/◌, ◌%◌, ◌<◌, ◌≤◌, ℤ, pos, negsuc, ◌+ℤ◌, ◌-ℤ◌, ◌*ℤ◌, ◌≤ℤ◌, ◌<ℤ◌, Bool, true, false, cond, eqb, ◌&&◌, List, [], ◌∷◌, unsigned_abs, refl, ap, sym, ◌∙◌, arith, length, get_or, set, map, get_or-set_other, get_or-set_same, length-set, below_more}
-use Rattle.std.proofs.lemmas.Bool.{ne_eqb}
+-- The inverse of a block by those of its rows that aren't zero, even and odd rows apart and above the middle.
+use Rattle.std.proofs.Common.{◌≡◌, ℕ, zero, suc, ◌+◌, ◌-◌, ◌*◌, ◌/◌, ◌%◌, ◌<◌, ◌≤◌, ℤ, pos, negsuc, ◌+ℤ◌, ◌-ℤ◌, ◌*ℤ◌, ◌≤ℤ◌, ◌<ℤ◌, Bool, true, false, cond, eqb, ◌&&◌, List, [], ◌∷◌, unsigned_abs, refl, ap, sym, ◌∙◌, arith, length, get_or, set, map, get_or-set_other, get_or-set_same, length-set, below_more, subst, ⊎_elim}
+use Rattle.std.proofs.lemmas.Bool.{ne_eqb, cases_lt}
 use Rattle.std.proofs.lemmas.Bool.Decides.{nat_tests}
 use Rattle.std.proofs.lemmas.Int.{ints, unsigned_abs-mul}
 use Rattle.std.proofs.lemmas.Nat.{mul-le}
@@ -11,11 +11,11 @@ use Rattle.mv_terms.specs.Sums.{sum_below, total_below}
 use Rattle.mv_terms.specs.Block.{item, entry}
 use Rattle.mv_terms.proofs.SumLemmas.{sum_below_same, sum_below_none, sum_below_more}
 use Rattle.mv_transform.specs.Basis.{basis}
-use Rattle.mv_transform.specs.Lines.{inverse_line}
-use Rattle.mv_transform.specs.Steps.{without_first, total_size, line_size, IsLoneLast}
+use Rattle.mv_transform.specs.Lines.{inverse_line, even_part, odd_part}
+use Rattle.mv_transform.specs.Steps.{without_first, total_size, line_size, even_size, odd_size, IsLoneLast}
 use Rattle.mv_transform.specs.Transform.{inverse_sum, inverse_at, weight, rounded, saturated}
 use Rattle.mv_transform.specs.declared.sparse.TheConstants.{LAST_IMAGE}
-use Rattle.mv_transform.proofs.LineLemmas.{basis_size, inverse_line_same, inverse_by_lines}
+use Rattle.mv_transform.proofs.LineLemmas.{basis_size, line_low, line_high, inverse_line_same, inverse_by_lines}
 use Rattle.mv_transform.proofs.TotalLemmas.{total_more, total_up, total_zero, total_same, size_zero}
 
 -- a sum whose terms are at most m times those of a total
@@ -34,19 +34,19 @@ unfolding inverse_line
 line_total F x hx = sum_below_total 4096 8 (λ u. basis u x *ℤ F u) (λ u. unsigned_abs (F u))
     (λ k l. rw unsigned_abs-mul (mul-le (unsigned_abs (basis k x)) (unsigned_abs (F k)) 4096 (unsigned_abs (F k)) (omega (arith, basis_size k x l hx)) (omega arith)))
 
--- each of the first n of 64 sums has a further term, and the others stay
+-- each of the first n of 32 sums has a further term, and the others stay
 pub record AreAdded (g : ℕ → ℤ) (old s : List ℤ) (n : ℕ) : Type 0 where
-  pub long : length s ≡ 64
+  pub long : length s ≡ 32
   pub done : (k : ℕ) → k < n → item s k ≡ item old k +ℤ g k
   pub left : (k : ℕ) → n ≤ k → item s k ≡ item old k
 
-pub added_none : (g : ℕ → ℤ) (s : List ℤ) → length s ≡ 64 → AreAdded g s s 0
+pub added_none : (g : ℕ → ℤ) (s : List ℤ) → length s ≡ 32 → AreAdded g s s 0
 added_none g s h = record { long = h; done = λ k l. absurd (omega (arith, l)); left = λ k l. refl }
 
 pub added_along : (g : ℕ → ℤ) (old s : List ℤ) (n m : ℕ) → AreAdded g old s n → m ≡ n → AreAdded g old s m
 added_along g old s n m w e = record { long = w.long; done = λ k l. w.done k (omega arith); left = λ k l. w.left k (omega arith) }
 
-pub added_more : (g : ℕ → ℤ) (old s : List ℤ) (n : ℕ) (a : ℤ) → AreAdded g old s n → n < 64 → a ≡ item s n +ℤ g n → AreAdded g old (set s n a) (n + 1)
+pub added_more : (g : ℕ → ℤ) (old s : List ℤ) (n : ℕ) (a : ℤ) → AreAdded g old s n → n < 32 → a ≡ item s n +ℤ g n → AreAdded g old (set s n a) (n + 1)
 added_more g old s n a w h e =
     let near : n < length s = omega (arith, w.long) in
     record {
@@ -108,47 +108,76 @@ lone_line f x h =
     let all : sum_below 8 (λ u. basis u x *ℤ f u) ≡ sum_below 7 (λ u. basis u x *ℤ f u) +ℤ basis 7 x *ℤ f 7 = sum_below_more 7 (λ u. basis u x *ℤ f u) in
     omega (arith, ints, before, last, all)
 
-image_is_table : LAST_IMAGE ≡ map (λ k. basis 7 (k / 8) *ℤ basis 7 (k % 8)) (range_with_len 0 64)
+image_is_table : LAST_IMAGE ≡ map (λ k. basis 7 (k / 8) *ℤ basis 7 (k % 8)) (range_with_len 0 32)
 unfolding basis
 image_is_table = refl
 
-pub lone_image : (line : List ℤ) → IsLoneLast (item line) → (k : ℕ) → k < 64 → item LAST_IMAGE k ≡ basis 7 (k / 8) *ℤ inverse_line (item line) (k % 8)
+pub lone_image : (line : List ℤ) → IsLoneLast (item line) → (k : ℕ) → k < 32 → item LAST_IMAGE k ≡ basis 7 (k / 8) *ℤ inverse_line (item line) (k % 8)
 lone_image line h k l =
     ap (λ (t : List ℤ). get_or t k (pos 0)) image_is_table
-    ∙ get_or-map-range_with_len (λ k. basis 7 (k / 8) *ℤ basis 7 (k % 8)) 0 64 k k (pos 0) l (omega arith)
+    ∙ get_or-map-range_with_len (λ k. basis 7 (k / 8) *ℤ basis 7 (k % 8)) 0 32 k k (pos 0) l (omega arith)
     ∙ ap (λ (z : ℤ). basis 7 (k / 8) *ℤ z) (sym (lone_line (item line) (k % 8) h))
 
 -- what row v of a block adds at place k
-abbrev row_term : (ℕ → ℕ → ℤ) → ℕ → ℕ → ℤ
+abbrev pub row_term : (ℕ → ℕ → ℤ) → ℕ → ℕ → ℤ
 row_term F k v = basis v (k / 8) *ℤ inverse_line (F v) (k % 8)
 
--- the sums of the last row and of the first n rows of a block
-pub record AreSummed (F : ℕ → ℕ → ℤ) (s : List ℤ) (n : ℕ) : Type 0 where
-  pub long : length s ≡ 64
-  pub value : (k : ℕ) → k < 64 → item s k ≡ row_term F k 7 +ℤ sum_below n (row_term F k)
+-- how large the term of one row is
+line_term_size : (f : ℕ → ℤ) (v k : ℕ) → v < 8 → k < 32 → unsigned_abs (basis v (k / 8) *ℤ inverse_line f (k % 8)) ≤ 16777216 * line_size f
+line_term_size f v k l hk =
+    let b = basis_size v (k / 8) l (omega arith) in
+    let t = line_total f (k % 8) (omega arith) in
+    let m = mul-le (unsigned_abs (basis v (k / 8))) (unsigned_abs (inverse_line f (k % 8))) 4096 (4096 * line_size f) (omega (arith, b)) t in
+    rw unsigned_abs-mul (omega (arith, m))
 
-pub summed_none : (F : ℕ → ℕ → ℤ) (s line : List ℤ) → length s ≡ 64 → ((u : ℕ) → u < 8 → item line u ≡ F 7 u)
-    → ((k : ℕ) → k < 64 → item s k ≡ basis 7 (k / 8) *ℤ inverse_line (item line) (k % 8)) → AreSummed F s 0
-summed_none F s line h same e = record {
+-- beside the sums first, of size a, the terms of the first n of some rows of a block above its middle
+pub record AreSummed (F : ℕ → ℕ → ℤ) (row : ℕ → ℕ) (first : ℕ → ℤ) (a : ℕ) (s : List ℤ) (n : ℕ) : Type 0 where
+  pub long : length s ≡ 32
+  pub value : (k : ℕ) → k < 32 → item s k ≡ first k +ℤ sum_below n (λ j. row_term F k (row j))
+  pub size : (k : ℕ) → k < 32 → unsigned_abs (item s k) ≤ 16777216 * (a + total_below n (λ j. line_size (F (row j))))
+
+pub summed_zeros : (F : ℕ → ℕ → ℤ) (row : ℕ → ℕ) (s : List ℤ) → length s ≡ 32 → ((k : ℕ) → k < 32 → item s k ≡ pos 0) → AreSummed F row (λ k. pos 0) 0 s 0
+summed_zeros F row s h e = record {
   long = h;
-  value = λ k l.
-      let here : item s k ≡ row_term F k 7 = e k l ∙ ap (λ (z : ℤ). basis 7 (k / 8) *ℤ z) (inverse_line_same (item line) (F 7) (k % 8) same) in
-      here ∙ plus_nothing (row_term F k 7) (sum_below 0 (row_term F k)) (sum_below_none (row_term F k));
+  value = λ k l. e k l ∙ plus_nothing (pos 0) (sum_below 0 (λ j. row_term F k (row j))) (sum_below_none (λ j. row_term F k (row j)));
+  size = λ k l. omega (arith, ap unsigned_abs (e k l));
 }
+
+pub summed_last : (F : ℕ → ℕ → ℤ) (row : ℕ → ℕ) (s line : List ℤ) → length s ≡ 32 → ((u : ℕ) → u < 8 → item line u ≡ F 7 u)
+    → ((k : ℕ) → k < 32 → item s k ≡ basis 7 (k / 8) *ℤ inverse_line (item line) (k % 8)) → AreSummed F row (λ k. row_term F k 7) (line_size (F 7)) s 0
+summed_last F row s line h same e =
+    let here : (k : ℕ) → k < 32 → item s k ≡ row_term F k 7 = λ k l. e k l ∙ ap (λ (z : ℤ). basis 7 (k / 8) *ℤ z) (inverse_line_same (item line) (F 7) (k % 8) same) in
+    record {
+      long = h;
+      value = λ k l. here k l ∙ plus_nothing (row_term F k 7) (sum_below 0 (λ j. row_term F k (row j))) (sum_below_none (λ j. row_term F k (row j)));
+      size = λ k l.
+          let t : unsigned_abs (row_term F k 7) ≤ 16777216 * line_size (F 7) = line_term_size (F 7) 7 k (omega arith) l in
+          omega (arith, ap unsigned_abs (here k l), t);
+    }
 
 plus_more : (a b d t : ℤ) → t ≡ b +ℤ d → (a +ℤ b) +ℤ d ≡ a +ℤ t
 plus_more a b d t e = omega (arith, ints)
 
-pub summed_line : (F : ℕ → ℕ → ℤ) (s t line : List ℤ) (n : ℕ) → AreSummed F s n → length t ≡ 64 → ((u : ℕ) → u < 8 → item line u ≡ F n u)
-    → ((k : ℕ) → k < 64 → item t k ≡ item s k +ℤ basis n (k / 8) *ℤ inverse_line (item line) (k % 8)) → AreSummed F t (n + 1)
-summed_line F s t line n w h same e = record {
-  long = h;
-  value = λ k l.
-      e k l
-      ∙ ap (λ (z : ℤ). item s k +ℤ basis n (k / 8) *ℤ z) (inverse_line_same (item line) (F n) (k % 8) same)
-      ∙ ap (λ (z : ℤ). z +ℤ row_term F k n) (w.value k l)
-      ∙ plus_more (row_term F k 7) (sum_below n (row_term F k)) (row_term F k n) (sum_below (n + 1) (row_term F k)) (sum_below_more n (row_term F k));
-}
+pub summed_line : (F : ℕ → ℕ → ℤ) (row : ℕ → ℕ) (first : ℕ → ℤ) (a : ℕ) (s t line : List ℤ) (n : ℕ) → AreSummed F row first a s n → row n < 8 → length t ≡ 32
+    → ((u : ℕ) → u < 8 → item line u ≡ F (row n) u)
+    → ((k : ℕ) → k < 32 → item t k ≡ item s k +ℤ basis (row n) (k / 8) *ℤ inverse_line (item line) (k % 8)) → AreSummed F row first a t (n + 1)
+summed_line F row first a s t line n w low h same e =
+    let here : (k : ℕ) → k < 32 → item t k ≡ item s k +ℤ row_term F k (row n) = λ k l.
+    e k l ∙ ap (λ (z : ℤ). item s k +ℤ basis (row n) (k / 8) *ℤ z) (inverse_line_same (item line) (F (row n)) (k % 8) same) in
+    record {
+      long = h;
+      value = λ k l.
+          here k l
+          ∙ ap (λ (z : ℤ). z +ℤ row_term F k (row n)) (w.value k l)
+          ∙ plus_more (first k) (sum_below n (λ j. row_term F k (row j))) (row_term F k (row n)) (sum_below (n + 1) (λ j. row_term F k (row j))) (sum_below_more n (λ j. row_term F k (row j)));
+      size = λ k l.
+          let T : ℕ → ℕ = λ j. line_size (F (row j)) in
+          let before : unsigned_abs (item s k) ≤ 16777216 * (a + total_below n T) = w.size k l in
+          let term : unsigned_abs (row_term F k (row n)) ≤ 16777216 * T n = line_term_size (F (row n)) (row n) k low l in
+          let more : total_below (n + 1) T ≡ total_below n T + T n = total_more n T in
+          let both : unsigned_abs (item s k +ℤ row_term F k (row n)) ≤ unsigned_abs (item s k) + unsigned_abs (row_term F k (row n)) = omega (arith, ints) in
+          omega (arith, ap unsigned_abs (here k l), before, term, more, both);
+    }
 
 -- the term at a place
 pub place_term : (v y x : ℕ) (line : List ℤ) → x < 8 → basis v y *ℤ item line x ≡ basis v ((8 * y + x) / 8) *ℤ item line ((8 * y + x) % 8)
@@ -157,38 +186,37 @@ place_term v y x line h =
     let b : (8 * y + x) % 8 ≡ x = omega arith in
     rw (a, b) refl
 
-pub term_fits : (old s line : List ℤ) (g : ℕ → ℤ) (y x : ℕ) → AreAdded g old s (8 * y + x) → y < 8 → x < 8 → ((k : ℕ) → k < 64 → unsigned_abs (item old k) + 4096 * unsigned_abs (item line (k % 8)) ≤ 2080374784)
+pub term_fits : (old s line : List ℤ) (g : ℕ → ℤ) (y x : ℕ) → AreAdded g old s (8 * y + x) → y < 4 → x < 8 → ((k : ℕ) → k < 32 → unsigned_abs (item old k) + 4096 * unsigned_abs (item line (k % 8)) ≤ 2080374784)
     → unsigned_abs (item s (8 * y + x)) + 4096 * unsigned_abs (item line x) ≤ 2080374784
 term_fits old s line g y x w hy hx h =
     let b : (8 * y + x) % 8 ≡ x = omega arith in
     let f : unsigned_abs (item old (8 * y + x)) + 4096 * unsigned_abs (item line x) ≤ 2080374784 = rw b at (h (8 * y + x) (omega arith)) in
     rw (w.left (8 * y + x) (omega arith)) f
 
--- how large the term of one row is, and the sum of the last row and of n rows
-row_size : (F : ℕ → ℕ → ℤ) (v k : ℕ) → v < 8 → k < 64 → unsigned_abs (row_term F k v) ≤ 16777216 * line_size (F v)
-row_size F v k l hk =
-    let b = basis_size v (k / 8) l (omega arith) in
-    let t = line_total (F v) (k % 8) (omega arith) in
-    let m = mul-le (unsigned_abs (basis v (k / 8))) (unsigned_abs (inverse_line (F v) (k % 8))) 4096 (4096 * line_size (F v)) (omega (arith, b)) t in
-    rw unsigned_abs-mul (omega (arith, m))
+-- the even and the odd terms of a sum
+split_total : (n : ℕ) (f : ℕ → ℕ) → total_below (2 * n) f ≡ total_below n (λ k. f (2 * k)) + total_below n (λ k. f (2 * k + 1))
+unfolding total_below
+split_total zero f = refl
+split_total (suc n) f =
+    let e : 2 * suc n ≡ suc (suc (2 * n)) = omega arith in
+    let h : total_below (2 * n) f ≡ total_below n (λ k. f (2 * k)) + total_below n (λ k. f (2 * k + 1)) = split_total n f in
+    let d : f (suc (2 * n)) ≡ f (2 * n + 1) = ap f (omega arith) in
+    rw e (omega (arith, h, d))
 
-summed_size : (F : ℕ → ℕ → ℤ) (n k : ℕ) → n ≤ 7 → k < 64 → unsigned_abs (row_term F k 7 +ℤ sum_below n (row_term F k)) ≤ 16777216 * (line_size (F 7) + total_below n (λ v. line_size (F v)))
-summed_size F n k hn hk =
-    let last = row_size F 7 k (omega arith) hk in
-    let rows = sum_below_total 16777216 n (row_term F k) (λ v. line_size (F v)) (λ v l. row_size F v k (omega arith) hk) in
-    let t : unsigned_abs (row_term F k 7 +ℤ sum_below n (row_term F k)) ≤ unsigned_abs (row_term F k 7) + unsigned_abs (sum_below n (row_term F k)) = omega (arith, ints) in
-    omega (arith, last, rows, t)
+both_sizes : (F : ℕ → ℕ → ℤ) → total_size F ≡ even_size F + odd_size F
+unfolding total_size
+both_sizes F = split_total 4 (λ v. line_size (F v))
+
+odd_size_more : (F : ℕ → ℕ → ℤ) → odd_size F ≡ total_below 3 (λ j. line_size (F (2 * j + 1))) + line_size (F 7)
+odd_size_more F = total_more 3 (λ j. line_size (F (2 * j + 1)))
 
 pub last_size : (F : ℕ → ℕ → ℤ) (line : List ℤ) → total_size F ≤ 124 → ((u : ℕ) → u < 8 → item line u ≡ F 7 u) → line_size (item line) ≤ 124
-unfolding total_size
 last_size F line small same =
-    let T : ℕ → ℕ = λ v. line_size (F v) in
-    let e : line_size (item line) ≡ T 7 = total_same 8 (λ u. unsigned_abs (item line u)) (λ u. unsigned_abs (F 7 u)) (λ k l. ap unsigned_abs (same k l)) in
-    let more : total_below 8 T ≡ total_below 7 T + T 7 = total_more 7 T in
-    omega (arith, e, more, small)
+    let e : line_size (item line) ≡ line_size (F 7) = total_same 8 (λ u. unsigned_abs (item line u)) (λ u. unsigned_abs (F 7 u)) (λ k l. ap unsigned_abs (same k l)) in
+    omega (arith, e, odd_size_more F, both_sizes F, small)
 
 -- the last row fits alone
-pub last_fits : (s line : List ℤ) (k : ℕ) → line_size (item line) ≤ 124 → k < 64 → item s k ≡ pos 0
+pub last_fits : (s line : List ℤ) (k : ℕ) → line_size (item line) ≤ 124 → k < 32 → item s k ≡ pos 0
     → unsigned_abs (item s k) + 4096 * unsigned_abs (inverse_line (item line) (k % 8)) ≤ 2080374784
 last_fits s line k small h z =
     let t = line_total (item line) (k % 8) (omega arith) in
@@ -198,36 +226,174 @@ pub last_alone : (t a b : ℤ) → t ≡ a +ℤ b → a ≡ pos 0 → t ≡ b
 last_alone t a b e z = omega (arith, ints)
 
 -- a further row fits
-pub row_fits : (F : ℕ → ℕ → ℤ) (s line : List ℤ) (n : ℕ) → total_size F ≤ 124 → n < 7 → AreSummed F s n → ((u : ℕ) → u < 8 → item line u ≡ F n u)
-    → (k : ℕ) → k < 64 → unsigned_abs (item s k) + 4096 * unsigned_abs (inverse_line (item line) (k % 8)) ≤ 2080374784
-unfolding total_size
-row_fits F s line n small hn w e k hk =
-    let T : ℕ → ℕ = λ v. line_size (F v) in
-    let size : unsigned_abs (item s k) ≤ 16777216 * (T 7 + total_below n T) = rw (w.value k hk) (summed_size F n k (omega arith) hk) in
-    let size_of_line : unsigned_abs (inverse_line (item line) (k % 8)) ≤ 4096 * T n = rw (inverse_line_same (item line) (F n) (k % 8) e) (line_total (F n) (k % 8) (omega arith)) in
+row_fits : (F : ℕ → ℕ → ℤ) (row : ℕ → ℕ) (first : ℕ → ℤ) (a : ℕ) (s line : List ℤ) (n : ℕ) → AreSummed F row first a s n
+    → a + total_below (n + 1) (λ j. line_size (F (row j))) ≤ 124 → ((u : ℕ) → u < 8 → item line u ≡ F (row n) u)
+    → (k : ℕ) → k < 32 → unsigned_abs (item s k) + 4096 * unsigned_abs (inverse_line (item line) (k % 8)) ≤ 2080374784
+row_fits F row first a s line n w small e k hk =
+    let T : ℕ → ℕ = λ j. line_size (F (row j)) in
+    let size : unsigned_abs (item s k) ≤ 16777216 * (a + total_below n T) = w.size k hk in
+    let size_of_line : unsigned_abs (inverse_line (item line) (k % 8)) ≤ 4096 * T n = rw (inverse_line_same (item line) (F (row n)) (k % 8) e) (line_total (F (row n)) (k % 8) (omega arith)) in
     let more : total_below (n + 1) T ≡ total_below n T + T n = total_more n T in
-    let up : total_below (n + 1) T ≤ total_below 7 T = total_up (n + 1) 7 T (omega arith) in
-    let all : total_below 8 T ≡ total_below 7 T + T 7 = total_more 7 T in
-    omega (arith, size, size_of_line, more, up, all, small)
+    omega (arith, size, size_of_line, more, small)
 
-lines_sum : (F : ℕ → ℕ → ℤ) (y x : ℕ) → sum_below 8 (λ v. basis v y *ℤ inverse_line (F v) x) ≡ inverse_sum F y x
-unfolding inverse_line
-lines_sum F y x = inverse_by_lines F y x
+pub even_row_fits : (F : ℕ → ℕ → ℤ) (s line : List ℤ) (n : ℕ) → total_size F ≤ 124 → n < 4 → AreSummed F (λ j. 2 * j) (λ k. pos 0) 0 s n → ((u : ℕ) → u < 8 → item line u ≡ F (2 * n) u)
+    → (k : ℕ) → k < 32 → unsigned_abs (item s k) + 4096 * unsigned_abs (inverse_line (item line) (k % 8)) ≤ 2080374784
+even_row_fits F s line n small hn w e =
+    let up : total_below (n + 1) (λ j. line_size (F (2 * j))) ≤ even_size F = total_up (n + 1) 4 (λ j. line_size (F (2 * j))) (omega arith) in
+    row_fits F (λ j. 2 * j) (λ k. pos 0) 0 s line n w (omega (arith, up, both_sizes F, small)) e
 
-pub all_rows : (F : ℕ → ℕ → ℤ) (s : List ℤ) (n : ℕ) → AreSummed F s n → n ≡ 7 → (k : ℕ) → k < 64 → item s k ≡ inverse_sum F (k / 8) (k % 8)
-all_rows F s n w e k h =
-    let all : sum_below 8 (row_term F k) ≡ sum_below 7 (row_term F k) +ℤ row_term F k 7 = sum_below_more 7 (row_term F k) in
-    let turned : row_term F k 7 +ℤ sum_below 7 (row_term F k) ≡ sum_below 8 (row_term F k) = omega (arith, ints, all) in
-    w.value k h ∙ ap (λ (m : ℕ). row_term F k 7 +ℤ sum_below m (row_term F k)) e ∙ turned ∙ lines_sum F (k / 8) (k % 8)
+pub odd_row_fits : (F : ℕ → ℕ → ℤ) (s line : List ℤ) (n : ℕ) → total_size F ≤ 124 → n < 3 → AreSummed F (λ j. 2 * j + 1) (λ k. row_term F k 7) (line_size (F 7)) s n
+    → ((u : ℕ) → u < 8 → item line u ≡ F (2 * n + 1) u)
+    → (k : ℕ) → k < 32 → unsigned_abs (item s k) + 4096 * unsigned_abs (inverse_line (item line) (k % 8)) ≤ 2080374784
+odd_row_fits F s line n small hn w e =
+    let up : total_below (n + 1) (λ j. line_size (F (2 * j + 1))) ≤ total_below 3 (λ j. line_size (F (2 * j + 1))) = total_up (n + 1) 3 (λ j. line_size (F (2 * j + 1))) (omega arith) in
+    row_fits F (λ j. 2 * j + 1) (λ k. row_term F k 7) (line_size (F 7)) s line n w (omega (arith, up, odd_size_more F, both_sizes F, small)) e
 
-pub all_sizes : (F : ℕ → ℕ → ℤ) (s : List ℤ) (n : ℕ) → total_size F ≤ 124 → AreSummed F s n → n ≡ 7 → (k : ℕ) → k < 64 → unsigned_abs (item s k) ≤ 2080374784
-unfolding total_size
-all_sizes F s n small w e k h =
-    let T : ℕ → ℕ = λ v. line_size (F v) in
-    let size : unsigned_abs (item s k) ≤ 16777216 * (T 7 + total_below n T) = rw (w.value k h) (summed_size F n k (omega arith) h) in
-    let same : total_below n T ≡ total_below 7 T = ap (λ (m : ℕ). total_below m T) e in
-    let all : total_below 8 T ≡ total_below 7 T + T 7 = total_more 7 T in
-    omega (arith, size, same, all, small)
+-- a term at a place of a row and a column
+term_at : (F : ℕ → ℕ → ℤ) (v y x : ℕ) → x < 8 → row_term F (8 * y + x) v ≡ basis v y *ℤ inverse_line (F v) x
+term_at F v y x h =
+    let a : (8 * y + x) / 8 ≡ y = omega arith in
+    let b : (8 * y + x) % 8 ≡ x = omega arith in
+    rw (a, b) refl
+
+nothing_plus : (a b c : ℤ) → a ≡ pos 0 +ℤ b → b ≡ c → a ≡ c
+nothing_plus a b c e h = omega (arith, ints)
+
+pub even_sums : (F : ℕ → ℕ → ℤ) (s : List ℤ) (n : ℕ) → AreSummed F (λ j. 2 * j) (λ k. pos 0) 0 s n → n ≡ 4
+    → (y x : ℕ) → y < 4 → x < 8 → entry s y x ≡ even_part (λ v. inverse_line (F v) x) y
+unfolding even_part
+even_sums F s n w e y x hy hx =
+    let k = 8 * y + x in
+    nothing_plus (item s k) (sum_below n (λ j. row_term F k (2 * j))) _ (w.value k (omega arith))
+    (ap (λ (m : ℕ). sum_below m (λ j. row_term F k (2 * j))) e
+    ∙ sum_below_same 4 (λ j. row_term F k (2 * j)) (λ j. basis (2 * j) y *ℤ inverse_line (F (2 * j)) x) (λ j l. term_at F (2 * j) y x hx))
+
+pub even_sizes : (F : ℕ → ℕ → ℤ) (s : List ℤ) (n : ℕ) → AreSummed F (λ j. 2 * j) (λ k. pos 0) 0 s n → n ≡ 4
+    → (y x : ℕ) → y < 4 → x < 8 → unsigned_abs (entry s y x) ≤ 16777216 * even_size F
+even_sizes F s n w e y x hy hx =
+    let size : unsigned_abs (entry s y x) ≤ 16777216 * (0 + total_below n (λ j. line_size (F (2 * j)))) = w.size (8 * y + x) (omega arith) in
+    let same : total_below n (λ j. line_size (F (2 * j))) ≡ even_size F = ap (λ (m : ℕ). total_below m (λ j. line_size (F (2 * j)))) e in
+    omega (arith, size, same)
+
+turned_sum : (a b c : ℤ) → c ≡ b +ℤ a → a +ℤ b ≡ c
+turned_sum a b c e = omega (arith, ints)
+
+pub odd_sums : (F : ℕ → ℕ → ℤ) (s : List ℤ) (n : ℕ) → AreSummed F (λ j. 2 * j + 1) (λ k. row_term F k 7) (line_size (F 7)) s n → n ≡ 3
+    → (y x : ℕ) → y < 4 → x < 8 → entry s y x ≡ odd_part (λ v. inverse_line (F v) x) y
+unfolding odd_part
+odd_sums F s n w e y x hy hx =
+    let k = 8 * y + x in
+    w.value k (omega arith)
+    ∙ ap (λ (m : ℕ). row_term F k 7 +ℤ sum_below m (λ j. row_term F k (2 * j + 1))) e
+    ∙ turned_sum (row_term F k 7) (sum_below 3 (λ j. row_term F k (2 * j + 1))) (sum_below 4 (λ j. row_term F k (2 * j + 1))) (sum_below_more 3 (λ j. row_term F k (2 * j + 1)))
+    ∙ sum_below_same 4 (λ j. row_term F k (2 * j + 1)) (λ j. basis (2 * j + 1) y *ℤ inverse_line (F (2 * j + 1)) x) (λ j l. term_at F (2 * j + 1) y x hx)
+
+pub odd_sizes : (F : ℕ → ℕ → ℤ) (s : List ℤ) (n : ℕ) → AreSummed F (λ j. 2 * j + 1) (λ k. row_term F k 7) (line_size (F 7)) s n → n ≡ 3
+    → (y x : ℕ) → y < 4 → x < 8 → unsigned_abs (entry s y x) ≤ 16777216 * odd_size F
+odd_sizes F s n w e y x hy hx =
+    let size : unsigned_abs (entry s y x) ≤ 16777216 * (line_size (F 7) + total_below n (λ j. line_size (F (2 * j + 1)))) = w.size (8 * y + x) (omega arith) in
+    let same : total_below n (λ j. line_size (F (2 * j + 1))) ≡ total_below 3 (λ j. line_size (F (2 * j + 1))) = ap (λ (m : ℕ). total_below m (λ j. line_size (F (2 * j + 1)))) e in
+    omega (arith, size, same, odd_size_more F)
+
+-- both sums fit together
+pub both_fit : (F : ℕ → ℕ → ℤ) (even odd : List ℤ) → total_size F ≤ 124
+    → ((y x : ℕ) → y < 4 → x < 8 → unsigned_abs (entry even y x) ≤ 16777216 * even_size F) → ((y x : ℕ) → y < 4 → x < 8 → unsigned_abs (entry odd y x) ≤ 16777216 * odd_size F)
+    → (y x : ℕ) → y < 4 → x < 8 → unsigned_abs (entry even y x) + unsigned_abs (entry odd y x) ≤ 2080374784
+both_fit F even odd small p q y x hy hx = omega (arith, both_sizes F, small, p y x hy hx, q y x hy hx)
+
+-- the place that mirrors a place above the middle
+abbrev mirror : ℕ → ℕ
+mirror k = 8 * (7 - k / 8) + k % 8
+
+-- the first n places of 32 and those that mirror them have their sums
+pub record AreUnfolded (even odd s : List ℤ) (n : ℕ) : Type 0 where
+  pub long : length s ≡ 64
+  pub above : (k : ℕ) → k < n → item s k ≡ item even k +ℤ item odd k
+  pub below : (k : ℕ) → k < n → item s (mirror k) ≡ item even k -ℤ item odd k
+
+pub unfolded_none : (even odd s : List ℤ) → length s ≡ 64 → AreUnfolded even odd s 0
+unfolded_none even odd s h = record { long = h; above = λ k l. absurd (omega (arith, l)); below = λ k l. absurd (omega (arith, l)) }
+
+pub unfolded_along : (even odd s : List ℤ) (n m : ℕ) → AreUnfolded even odd s n → m ≡ n → AreUnfolded even odd s m
+unfolded_along even odd s n m w e = record { long = w.long; above = λ k l. w.above k (omega arith); below = λ k l. w.below k (omega arith) }
+
+unfolded_next : (even odd s : List ℤ) (n : ℕ) (a b : ℤ) → AreUnfolded even odd s n → n < 32 → a ≡ item even n +ℤ item odd n → b ≡ item even n -ℤ item odd n
+    → AreUnfolded even odd (set (set s n a) (mirror n) b) (n + 1)
+unfolded_next even odd s n a b w h p q =
+    let near : n < length s = omega (arith, w.long) in
+    let far : mirror n < length (set s n a) = omega (arith, w.long, length-set s n a) in
+    record {
+      long = length-set (set s n a) (mirror n) b ∙ length-set s n a ∙ w.long;
+      above = below_more (λ k. get_or (set (set s n a) (mirror n) b) k (pos 0) ≡ item even k +ℤ item odd k) n
+          (λ k l. get_or-set_other (set s n a) (mirror n) k b (pos 0) (omega arith) ∙ get_or-set_other s n k a (pos 0) (omega arith) ∙ w.above k l)
+          (get_or-set_other (set s n a) (mirror n) n b (pos 0) (omega arith) ∙ get_or-set_same s n a (pos 0) near ∙ p);
+      below = below_more (λ k. get_or (set (set s n a) (mirror n) b) (mirror k) (pos 0) ≡ item even k -ℤ item odd k) n
+          (λ k l. get_or-set_other (set s n a) (mirror n) (mirror k) b (pos 0) (omega arith) ∙ get_or-set_other s n (mirror k) a (pos 0) (omega arith) ∙ w.below k l)
+          (get_or-set_same (set s n a) (mirror n) b (pos 0) far ∙ q);
+    }
+
+pub unfolded_more : (even odd s : List ℤ) (y x : ℕ) (a b : ℤ) → AreUnfolded even odd s (8 * y + x) → y < 4 → x < 8
+    → a ≡ item even (8 * y + x) +ℤ item odd (8 * y + x) → b ≡ item even (8 * y + x) -ℤ item odd (8 * y + x)
+    → AreUnfolded even odd (set (set s (8 * y + x) a) (8 * (7 - y) + x) b) (8 * y + x + 1)
+unfolded_more even odd s y x a b w hy hx p q =
+    let e : mirror (8 * y + x) ≡ 8 * (7 - y) + x = omega arith in
+    subst (λ (m : ℕ). AreUnfolded even odd (set (set s (8 * y + x) a) m b) (8 * y + x + 1)) e
+    (unfolded_next even odd s (8 * y + x) a b w (omega arith) p q)
+
+pub all_above : (even odd s : List ℤ) (n : ℕ) → AreUnfolded even odd s n → 32 ≤ n → (y x : ℕ) → y < 4 → x < 8 → entry s y x ≡ entry even y x +ℤ entry odd y x
+all_above even odd s n w h y x hy hx = w.above (8 * y + x) (omega arith)
+
+pub all_below : (even odd s : List ℤ) (n : ℕ) → AreUnfolded even odd s n → 32 ≤ n → (y x : ℕ) → y < 4 → x < 8 → entry s (7 - y) x ≡ entry even y x -ℤ entry odd y x
+all_below even odd s n w h y x hy hx =
+    let e : mirror (8 * y + x) ≡ 8 * (7 - y) + x = omega arith in
+    subst (λ (m : ℕ). item s m ≡ entry even y x -ℤ entry odd y x) e (w.below (8 * y + x) (omega arith))
+
+-- even and odd sums above the middle, and the sums at all places
+pub record AreBoth (F : ℕ → ℕ → ℤ) (even odd s : List ℤ) : Type 0 where
+  pub evens : (y x : ℕ) → y < 4 → x < 8 → entry even y x ≡ even_part (λ v. inverse_line (F v) x) y
+  pub odds : (y x : ℕ) → y < 4 → x < 8 → entry odd y x ≡ odd_part (λ v. inverse_line (F v) x) y
+  pub above : (y x : ℕ) → y < 4 → x < 8 → entry s y x ≡ entry even y x +ℤ entry odd y x
+  pub below : (y x : ℕ) → y < 4 → x < 8 → entry s (7 - y) x ≡ entry even y x -ℤ entry odd y x
+
+sum_above : (F : ℕ → ℕ → ℤ) (even odd s : List ℤ) → AreBoth F even odd s → (y x : ℕ) → y < 4 → x < 8 → entry s y x ≡ inverse_sum F y x
+sum_above F even odd s w y x hy hx =
+    w.above y x hy hx ∙ ap (λ (z : ℤ). z +ℤ entry odd y x) (w.evens y x hy hx) ∙ ap (λ (z : ℤ). even_part (λ v. inverse_line (F v) x) y +ℤ z) (w.odds y x hy hx)
+    ∙ sym (line_low (λ v. inverse_line (F v) x) y) ∙ inverse_by_lines F y x
+
+sum_below_middle : (F : ℕ → ℕ → ℤ) (even odd s : List ℤ) → AreBoth F even odd s → (y x : ℕ) → y < 4 → x < 8 → entry s (7 - y) x ≡ inverse_sum F (7 - y) x
+sum_below_middle F even odd s w y x hy hx =
+    w.below y x hy hx ∙ ap (λ (z : ℤ). z -ℤ entry odd y x) (w.evens y x hy hx) ∙ ap (λ (z : ℤ). even_part (λ v. inverse_line (F v) x) y -ℤ z) (w.odds y x hy hx)
+    ∙ sym (line_high (λ v. inverse_line (F v) x) y (omega arith)) ∙ inverse_by_lines F (7 - y) x
+
+-- what holds of each place above the middle and of each that mirrors one holds of all
+everywhere : (P : ℕ → ℕ → Type 0) → ((y x : ℕ) → y < 4 → x < 8 → P y x) → ((y x : ℕ) → y < 4 → x < 8 → P (7 - y) x) → (y x : ℕ) → y < 8 → x < 8 → P y x
+everywhere P high low y x hy hx = ⊎_elim
+    (λ (l : y < 4). high y x l hx)
+    (λ (l : 4 ≤ y). let back : 7 - (7 - y) ≡ y = omega arith in subst (λ (n : ℕ). P n x) back (low (7 - y) x (omega arith) hx))
+    (cases_lt y 4)
+
+pub all_sums : (F : ℕ → ℕ → ℤ) (even odd s : List ℤ) → AreBoth F even odd s → (k : ℕ) → k < 64 → item s k ≡ inverse_sum F (k / 8) (k % 8)
+all_sums F even odd s w k h =
+    let place : item s k ≡ entry s (k / 8) (k % 8) = ap (item s) (omega arith) in
+    place ∙ everywhere (λ y x. entry s y x ≡ inverse_sum F y x) (sum_above F even odd s w) (sum_below_middle F even odd s w) (k / 8) (k % 8) (omega arith) (omega arith)
+
+size_above : (a b z : ℤ) → z ≡ a +ℤ b → unsigned_abs z ≤ unsigned_abs a + unsigned_abs b
+size_above a b z e = omega (arith, ints)
+
+size_below : (a b z : ℤ) → z ≡ a -ℤ b → unsigned_abs z ≤ unsigned_abs a + unsigned_abs b
+size_below a b z e = omega (arith, ints)
+
+pub all_sizes : (F : ℕ → ℕ → ℤ) (even odd s : List ℤ) → AreBoth F even odd s
+    → ((y x : ℕ) → y < 4 → x < 8 → unsigned_abs (entry even y x) + unsigned_abs (entry odd y x) ≤ 2080374784)
+    → (k : ℕ) → k < 64 → unsigned_abs (item s k) ≤ 2080374784
+all_sizes F even odd s w fit k h =
+    let place : item s k ≡ entry s (k / 8) (k % 8) = ap (item s) (omega arith) in
+    let size : unsigned_abs (entry s (k / 8) (k % 8)) ≤ 2080374784 =
+    everywhere (λ y x. unsigned_abs (entry s y x) ≤ 2080374784)
+    (λ y x hy hx. omega (arith, size_above (entry even y x) (entry odd y x) (entry s y x) (w.above y x hy hx), fit y x hy hx))
+    (λ y x hy hx. omega (arith, size_below (entry even y x) (entry odd y x) (entry s (7 - y) x) (w.below y x hy hx), fit y x hy hx))
+    (k / 8) (k % 8) (omega arith) (omega arith) in
+    omega (arith, ap unsigned_abs place, size)
 
 -- the first coefficient apart: its weight is the same at each place
 weight_of_first : (y x : ℕ) → weight 0 0 y x ≡ pos 8386816

@@ -1,5 +1,5 @@
 -- What the steps of both directions promise each other. Nobody needs to believe these: they only carry proofs.
-use Rattle.std.specs.Prelude.{◌≡◌, ℕ, ◌<◌, ◌≤◌, ◌-◌, ◌^◌, ◌==◌, if◌then◌else◌, List, ℤ, pos, ◌-ℤ◌, ◌*ℤ◌, unsigned_abs}
+use Rattle.std.specs.Prelude.{◌≡◌, ℕ, ◌<◌, ◌≤◌, ◌+◌, ◌-◌, ◌*◌, ◌^◌, ◌==◌, if◌then◌else◌, List, ℤ, pos, ◌-ℤ◌, ◌*ℤ◌, unsigned_abs}
 use Rattle.std.specs.Int.{int_shr}
 use Rattle.mv_terms.specs.Sums.{sum_below, total_below}
 use Rattle.mv_terms.specs.Block.{item}
@@ -45,6 +45,13 @@ line_size f = total_below 8 (λ u. unsigned_abs (f u))
 
 unfoldable pub total_size : (ℕ → ℕ → ℤ) → ℕ
 total_size F = total_below 8 (λ v. line_size (F v))
+
+-- the same of its even rows and of its odd rows
+abbrev pub even_size : (ℕ → ℕ → ℤ) → ℕ
+even_size F = total_below 4 (λ k. line_size (F (2 * k)))
+
+abbrev pub odd_size : (ℕ → ℕ → ℤ) → ℕ
+odd_size F = total_below 4 (λ k. line_size (F (2 * k + 1)))
 
 -- the largest total whose sums fit 32 bits beside what the first coefficient leaves, and the largest of these sums
 abbrev pub largest_total : ℕ

@@ -1,20 +1,21 @@
 //! The inverse of a block whose coefficients but the first are few and small: rows of zeros are passed over, and all
-//! sums but that of the first coefficient fit 32 bits. A lone last coefficient of 1, which mismatch control leaves
-//! in many blocks (H.262, 7.4.4), begins the sums by a table.
+//! sums but that of the first coefficient fit 32 bits. Even and odd rows are summed apart, and above the middle
+//! alone: both sums give the place and the place that mirrors it. A lone last coefficient of 1, which mismatch
+//! control leaves in many blocks (H.262, 7.4.4), begins the odd sums by a table.
 
 ghost use Rattle.std.specs.Prelude.{◌≡◌, ℕ, ◌+◌, ◌-◌, ◌*◌, ◌/◌, ◌%◌, ◌^◌, ◌<◌, ◌≤◌, ◌==◌, pos, ◌+ℤ◌, ◌-ℤ◌, ◌*ℤ◌, ◌≤ℤ◌, IsTrue, unsigned_abs};
 ghost use Rattle.std.specs.Int.{int_shr};
 ghost use Rattle.std.specs.List.{list_all};
 ghost use Rattle.mv_terms.specs.Block.{item, entry};
 ghost use Rattle.mv_transform.specs.Basis.{basis};
-ghost use Rattle.mv_transform.specs.Lines.{inverse_line};
-ghost use Rattle.mv_transform.specs.Steps.{without_first, total_size, line_size, largest_total, largest_sum, first_weight, IsLoneLast};
+ghost use Rattle.mv_transform.specs.Lines.{inverse_line, even_part, odd_part};
+ghost use Rattle.mv_transform.specs.Steps.{without_first, total_size, line_size, even_size, odd_size, largest_total, largest_sum, first_weight, IsLoneLast};
 ghost use Rattle.mv_transform.specs.Transform.{inverse_sum, saturated, rounded};
 
 use super::inverse_lines::inverse_of_line;
 use super::parts::saturated_value;
 use super::passes::row_of;
-use super::signed::{plus, product};
+use super::signed::{minus, plus, product};
 use super::weights::weight;
 
 /// The inverse of a block whose coefficients but the first, which stand apart in `others`, are few and small.
@@ -70,42 +71,89 @@ fn size_at(block: &[i16; 64], k: usize) -> u32
     u32::from(block[k].unsigned_abs())
 }
 
-// The sums of a small block: of the last row and then of the other seven.
+// The sums of a small block.
 fn sums_of_rows(block: &[i16; 64]) -> [i32; 64]
     requires { total_size (entry block.now) ≤ largest_total }
     ensures value { (k : ℕ) → k < 64 →
         item result k ≡ inverse_sum (entry block.now) (k / 8) (k % 8) }
     ensures size { (k : ℕ) → k < 64 → unsigned_abs (item result k) ≤ largest_sum }
 {
-    let mut sums = sums_of_last_row(&row_of(block, 7));
-    'rows: for v in 0..7 {
-        add_line(&mut sums, v, &row_of(block, v));
+    unfolded(&sums_of_even_rows(block), &sums_of_odd_rows(block))
+}
+
+// What the even rows give above the middle.
+fn sums_of_even_rows(block: &[i16; 64]) -> [i32; 32]
+    requires { total_size (entry block.now) ≤ largest_total }
+    ensures value { (y x : ℕ) → y < 4 → x < 8 →
+        entry result y x ≡ even_part (λ v. inverse_line (entry block.now v) x) y }
+    ensures size { (y x : ℕ) → y < 4 → x < 8 →
+        unsigned_abs (entry result y x) ≤ 2 ^ 24 * even_size (entry block.now) }
+{
+    let mut sums = [0; 32];
+    'rows: for k in 0..4 {
+        add_line(&mut sums, 2 * k, &row_of(block, 2 * k));
     }
     sums
 }
 
-// The sums of a block of which only the last row isn't zero.
-fn sums_of_last_row(line: &[i16; 8]) -> [i32; 64]
+// What the odd rows give above the middle, the last row first.
+fn sums_of_odd_rows(block: &[i16; 64]) -> [i32; 32]
+    requires { total_size (entry block.now) ≤ largest_total }
+    ensures value { (y x : ℕ) → y < 4 → x < 8 →
+        entry result y x ≡ odd_part (λ v. inverse_line (entry block.now v) x) y }
+    ensures size { (y x : ℕ) → y < 4 → x < 8 →
+        unsigned_abs (entry result y x) ≤ 2 ^ 24 * odd_size (entry block.now) }
+{
+    let mut sums = sums_of_last_row(&row_of(block, 7));
+    'rows: for k in 0..3 {
+        add_line(&mut sums, 2 * k + 1, &row_of(block, 2 * k + 1));
+    }
+    sums
+}
+
+// The sums at all places by those above the middle: an odd row changes its sign there.
+fn unfolded(even: &[i32; 32], odd: &[i32; 32]) -> [i32; 64]
+    requires { (y x : ℕ) → y < 4 → x < 8 →
+        unsigned_abs (entry even.now y x) + unsigned_abs (entry odd.now y x) ≤ largest_sum }
+    ensures above { (y x : ℕ) → y < 4 → x < 8 →
+        entry result y x ≡ entry even.now y x +ℤ entry odd.now y x }
+    ensures below { (y x : ℕ) → y < 4 → x < 8 →
+        entry result (7 - y) x ≡ entry even.now y x -ℤ entry odd.now y x }
+{
+    let mut sums = [0; 64];
+    'rows: for y in 0..4 {
+        'places: for x in 0..8 {
+            let even_sum = half_sum_at(even, 8 * y + x);
+            let odd_sum = half_sum_at(odd, 8 * y + x);
+            sums[8 * y + x] = plus(even_sum, odd_sum);
+            sums[8 * (7 - y) + x] = minus(even_sum, odd_sum);
+        }
+    }
+    sums
+}
+
+// What a block of which only the last row isn't zero gives above the middle.
+fn sums_of_last_row(line: &[i16; 8]) -> [i32; 32]
     requires { line_size (item line.now) ≤ largest_total }
-    ensures { (k : ℕ) → k < 64 →
+    ensures { (k : ℕ) → k < 32 →
         item result k ≡ basis 7 (k / 8) *ℤ inverse_line (item line.now) (k % 8) }
 {
     if is_lone_last(line) {
         return LAST_IMAGE;
     }
-    let mut sums = [0; 64];
+    let mut sums = [0; 32];
     add_line(&mut sums, 7, line);
     sums
 }
 
-// Adds the inverse of row v of a block, each sum times the weight of v at its place in a column. Inlined, its test
-// reads a row that never leaves a vector.
+// Adds the inverse of row v of a block above the middle, each sum times the weight of v at its place in a column.
+// Inlined, its test reads a row that never leaves a vector.
 #[inline(always)]
-fn add_line(sums: &mut [i32; 64], v: usize, line: &[i16; 8])
+fn add_line(sums: &mut [i32; 32], v: usize, line: &[i16; 8])
     requires row { v < 8 }
-    requires fits { (k : ℕ) → k < 64 → unsigned_abs (item sums.old k)
+    requires fits { (k : ℕ) → k < 32 → unsigned_abs (item sums.old k)
         + 4096 * unsigned_abs (inverse_line (item line.now) (k % 8)) ≤ largest_sum }
-    ensures { (k : ℕ) → k < 64 → item sums.new k ≡
+    ensures { (k : ℕ) → k < 32 → item sums.new k ≡
         item sums.old k +ℤ basis v (k / 8) *ℤ inverse_line (item line.now) (k % 8) }
 {
     if is_zero(line) {
@@ -114,20 +162,22 @@ fn add_line(sums: &mut [i32; 64], v: usize, line: &[i16; 8])
     add_row(sums, v, &inverse_of_line(line));
 }
 
-// Adds the sums of row v, each times the weight of v at its place in a column.
+// Adds the sums of row v above the middle, each times the weight of v at its place in a column. It works on a copy of
+// the row, since LLVM then sees that no sum lies in it.
 #[inline(never)]
-fn add_row(sums: &mut [i32; 64], v: usize, line: &[i32; 8])
+fn add_row(sums: &mut [i32; 32], v: usize, line: &[i32; 8])
     requires row { v < 8 }
-    requires fits { (k : ℕ) → k < 64 → unsigned_abs (item sums.old k)
+    requires fits { (k : ℕ) → k < 32 → unsigned_abs (item sums.old k)
         + 4096 * unsigned_abs (item line.now (k % 8)) ≤ largest_sum }
-    ensures { (k : ℕ) → k < 64 → item sums.new k ≡
+    ensures { (k : ℕ) → k < 32 → item sums.new k ≡
         item sums.old k +ℤ basis v (k / 8) *ℤ item line.now (k % 8) }
 {
-    'rows: for y in 0..8 {
+    let values = *line;
+    'rows: for y in 0..4 {
         let weight = weight(v, y);
         'places: for x in 0..8 {
             let k = 8 * y + x;
-            sums[k] = plus_term(sum_at(sums, k), weight, line_at(line, x));
+            sums[k] = plus_term(half_sum_at(sums, k), weight, line_at(&values, x));
         }
     }
 }
@@ -155,6 +205,13 @@ fn line_at(line: &[i32; 8], x: usize) -> i32
 
 fn sum_at(sums: &[i32; 64], k: usize) -> i32
     requires { k < 64 }
+    ensures { result ≡ item sums.now k }
+{
+    sums[k]
+}
+
+fn half_sum_at(sums: &[i32; 32], k: usize) -> i32
+    requires { k < 32 }
     ensures { result ≡ item sums.now k }
 {
     sums[k]
@@ -242,15 +299,11 @@ fn size_in_line(line: &[i16; 8], u: usize) -> u32
     u32::from(line[u].unsigned_abs())
 }
 
-// The sums of a last coefficient of 1: the weights of frequency 7 at the row and at the column.
+// What a last coefficient of 1 gives above the middle: the weights of frequency 7 at the row and at the column.
 #[rattlefmt::skip]
-const LAST_IMAGE: [i32; 64] = [
+const LAST_IMAGE: [i32; 32] = [
        638401,  -1818524,   2721394,  -3209583,   3209583,  -2721394,   1818524,   -638401,
      -1818524,   5180176,  -7752056,   9142692,  -9142692,   7752056,  -5180176,   1818524,
       2721394,  -7752056,  11600836, -13681902,  13681902, -11600836,   7752056,  -2721394,
      -3209583,   9142692, -13681902,  16136289, -16136289,  13681902,  -9142692,   3209583,
-      3209583,  -9142692,  13681902, -16136289,  16136289, -13681902,   9142692,  -3209583,
-     -2721394,   7752056, -11600836,  13681902, -13681902,  11600836,  -7752056,   2721394,
-      1818524,  -5180176,   7752056,  -9142692,   9142692,  -7752056,   5180176,  -1818524,
-      -638401,   1818524,  -2721394,   3209583,  -3209583,   2721394,  -1818524,    638401,
 ];

@@ -7,7 +7,7 @@ pub returns-then-is_lone_last : goal.returns-then-is_lone_last
 returns-then-is_lone_last c = lone_image c.args.line.now (c.is_lone_last.ensures c.if-is_lone_last.true)
 
 pub add_line-requires-clause-fits : goal.add_line-requires-clause-fits
-add_line-requires-clause-fits c = λ k h. last_fits (replicate 64 (pos 0)) c.args.line.now k c.requires h (get_or-replicate 64 k (pos 0) (pos 0) h)
+add_line-requires-clause-fits c = λ k h. last_fits (replicate 32 (pos 0)) c.args.line.now k c.requires h (get_or-replicate 32 k (pos 0) (pos 0) h)
 
 pub returns : goal.returns
-returns c = λ k h. last_alone _ _ _ (c.add_line.ensures k h) (get_or-replicate 64 k (pos 0) (pos 0) h)
+returns c = λ k h. last_alone _ _ _ (c.add_line.ensures k h) (get_or-replicate 32 k (pos 0) (pos 0) h)
