@@ -1,6 +1,6 @@
 -- The level of a coefficient: the one whose value is nearest to it.
 use Rattle.std.specs.Prelude.{◌≡◌, ℕ, zero, suc, ◌+◌, ◌-◌, ◌*◌, ◌/◌, ◌^◌, ◌<◌, ◌≤◌, Bool, true, false, nat_lt, if◌then◌else◌, ◌⊎◌, ℤ, pos, negsuc, ◌-ℤ◌, ◌≤ℤ◌, ◌<ℤ◌, unsigned_abs}
-use Rattle.mv_terms.specs.Ranges.{IsLevel}
+use Rattle.mv_terms.specs.Ranges.{IsDcLevel, IsLevel}
 use Rattle.mv_quant.specs.declared.Kind.{Kind}
 use Rattle.mv_quant.specs.Dequantised.{value_of, is_first_of_intra, step_at}
 
@@ -33,7 +33,8 @@ abbrev pub least_level : Kind → ℕ → ℕ → ℤ
 least_level kind v u = if is_first_of_intra kind v u then pos 0 else negsuc 2046
 
 abbrev pub greatest_level : Kind → ℕ → ℕ → ℤ
-greatest_level kind v u = if is_first_of_intra kind v u then pos (2 ^ (8 + kind.dc_precision) - 1) else pos 2047
+greatest_level kind v u =
+    if is_first_of_intra kind v u then pos (2 ^ (8 + kind.dc_precision) - 1) else pos 2047
 
 abbrev pub CanStand : Kind → ℕ → ℕ → ℤ → Type 0
 CanStand kind v u level = (least_level kind v u ≤ℤ level) × (level ≤ℤ greatest_level kind v u)
@@ -60,27 +61,32 @@ NearestIsNearest = (kind : Kind) (v u : ℕ) (c : ℤ) → IsNearest kind v u c 
 
 -- and no other level is;
 abbrev pub OneIsNearest : Type 0
-OneIsNearest = (kind : Kind) (v u : ℕ) (c q : ℤ) → IsNearest kind v u c q → q ≡ nearest_level kind v u c
+OneIsNearest =
+    (kind : Kind) (v u : ℕ) (c q : ℤ) → IsNearest kind v u c q → q ≡ nearest_level kind v u c
 
 -- it lies in −2047 to 2047,
 abbrev pub NearestIsLevel : Type 0
-NearestIsLevel = (kind : Kind) (v u : ℕ) (c : ℤ) → kind.dc_precision ≤ 3 → IsLevel (nearest_level kind v u c)
+NearestIsLevel =
+    (kind : Kind) (v u : ℕ) (c : ℤ) → kind.dc_precision ≤ 3 → IsLevel (nearest_level kind v u c)
 
 -- and the first one of an intra block in the range of its precision;
 abbrev pub NearestDcIsInRange : Type 0
 NearestDcIsInRange = (kind : Kind) (c : ℤ) → kind.intra ≡ true
-    → (pos 0 ≤ℤ nearest_level kind 0 0 c) × (nearest_level kind 0 0 c <ℤ pos (2 ^ (8 + kind.dc_precision)))
+    → IsDcLevel kind.dc_precision (nearest_level kind 0 0 c)
 
 -- what is found near the value of a level has this level again: values of different levels lie at least a sixteenth of the
 -- step apart, unless they are saturated;
 abbrev pub CloseIsNearest : Type 0
-CloseIsNearest = (kind : Kind) (v u : ℕ) (level c : ℤ) → is_first_of_intra kind v u ≡ false → IsLevel level
+CloseIsNearest =
+    (kind : Kind) (v u : ℕ) (level c : ℤ) → is_first_of_intra kind v u ≡ false → IsLevel level
     → let apart = step_at kind (8 * v + u) / 16 in
-    2 * distance (value_of kind v u level) c < apart → unsigned_abs (value_of kind v u level) + apart ≤ 2047
+    2 * distance (value_of kind v u level) c < apart
+    → unsigned_abs (value_of kind v u level) + apart ≤ 2047
     → nearest_level kind v u c ≡ level
 
 -- and in an intra block the value of the nearest level lies within half of that, and one, of the coefficient.
 abbrev pub NearestIsClose : Type 0
-NearestIsClose = (kind : Kind) (v u : ℕ) (c : ℤ) → kind.intra ≡ true → is_first_of_intra kind v u ≡ false
+NearestIsClose =
+    (kind : Kind) (v u : ℕ) (c : ℤ) → kind.intra ≡ true → is_first_of_intra kind v u ≡ false
     → 32 ≤ step_at kind (8 * v + u) → unsigned_abs c ≤ 2047
     → 32 * distance (value_of kind v u (nearest_level kind v u c)) c ≤ step_at kind (8 * v + u) + 32

@@ -37,7 +37,8 @@ gap a b = (a - b) + (b - a)
 
 -- a level of size q is to be taken before one of size p: its size is nearer to c, or as near while q is no larger
 abbrev pub ComesBefore : (ℕ → ℕ) → ℕ → ℕ → ℕ → Type 0
-ComesBefore size c q p = (gap (size q) c < gap (size p) c) ⊎ ((gap (size q) c ≡ gap (size p) c) × (q ≤ p))
+ComesBefore size c q p =
+    (gap (size q) c < gap (size p) c) ⊎ ((gap (size q) c ≡ gap (size p) c) × (q ≤ p))
 
 -- q is preferred to all levels that are allowed
 pub record IsNearestOf (value : ℤ → ℤ) (IsAllowed : ℤ → Type 0) (c q : ℤ) : Type 0 where

@@ -96,7 +96,8 @@ fn least_of_value(odd: u32, entry: u32, scale: u32, m: u32) -> u32
     requires scale { (0 < scale) × (scale ≤ 112) }
     requires m { m ≤ 2047 }
     ensures reaches { value_size odd (entry * scale) m ≤ value_size odd (entry * scale) result }
-    ensures least { (p : ℕ) → value_size odd (entry * scale) m ≤ value_size odd (entry * scale) p → result ≤ p }
+    ensures least { (p : ℕ) → value_size odd (entry * scale) m ≤ value_size odd (entry * scale) p
+        → result ≤ p }
 {
     let step = step_of(entry, scale);
     if step < 16 {

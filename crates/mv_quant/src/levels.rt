@@ -50,7 +50,8 @@ fn find_row(
     requires scale { (0 < kind.now.scale) × (kind.now.scale ≤ 112) }
     requires matrix { All (λ w. 0 < w) kind.now.matrix }
     requires row { row < 8 }
-    requires small { (k : ℕ) → k < 64 → slice_index excesses.now k ≡ 0 → IsSmall kind.now coefs.now k }
+    requires small { (k : ℕ) → k < 64 → slice_index excesses.now k ≡ 0
+        → IsSmall kind.now coefs.now k }
     requires before { AreFound kind.now coefs.now levels.old (8 * row) }
     ensures { AreFound kind.now coefs.now levels.new (8 * row + 8) }
 {
@@ -139,7 +140,8 @@ fn has_no_excess(excesses: &[u16; 64], row: usize) -> bool
 // The first level of an intra block.
 fn nearest_dc(coefficient: i16, precision: u8) -> i16
     requires { precision ≤ 3 }
-    ensures { IsNearestOf (dc_value precision) (IsUpTo (2 ^ (8 + precision) - 1)) coefficient result }
+    ensures { IsNearestOf (dc_value precision)
+        (IsUpTo (2 ^ (8 + precision) - 1)) coefficient result }
 {
     if coefficient <= 0 {
         0
