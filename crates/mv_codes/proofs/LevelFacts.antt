@@ -1,21 +1,22 @@
 -- The writer's lists hold the code of each run and level at its place, and no other has one.
-use Rattle.std.proofs.Common.{◌≡◌, ℕ, zero, suc, ◌+◌, ◌*◌, ◌<◌, ◌≤◌, Bool, true, false, ◌||◌, ◌&&◌, not, cond, eqb, leb, ltb, inl, inr, List, [], ◌∷◌, length, get_or, drop, Option, Some, None, refl, ap, sym, ◌∙◌, subst, arith, ℤ, pos, negsuc, neg_ℤ}
+use Rattle.std.proofs.Common.{◌≡◌, ℕ, zero, suc, ◌+◌, ◌*◌, ◌^◌, ◌<◌, ◌≤◌, Bool, true, false, ◌||◌, ◌&&◌, not, cond, eqb, leb, ltb, inl, inr, List, [], ◌∷◌, ◌++◌, append_assoc, add-zero, length, get_or, drop, Option, Some, None, refl, ap, sym, ◌∙◌, subst, arith, ℤ, pos, negsuc, neg_ℤ}
 use Rattle.std.specs.Prelude.{int_lt, unsigned_abs, nat_lt, nat_le}
 use Rattle.std.specs.List.{flat_map, list_all}
 use Rattle.std.proofs.lemmas.Bool.{cases_lt}
 use Rattle.std.proofs.lemmas.Bool.Decides.{nat_tests}
 use Rattle.std.proofs.lemmas.Int.{ints}
+use Rattle.std.proofs.lemmas.Nat.{mod_low, shr_high}
 use Rattle.mv_bits.specs.Bits.{digits, worth}
+use Rattle.mv_bits.proofs.KeptLaws.{digits-mod, digits-add}
 use Rattle.mv_bits.specs.Writing.{Writes}
 use Rattle.mv_codes.specs.declared.code.Code.{Code}
-use Rattle.mv_codes.specs.declared.coefficient.Coef.{Coef}
 use Rattle.mv_codes.specs.declared.coefficient.Coef.TheVariants.{End, Escape, Pair}
 use Rattle.mv_codes.specs.Tables.{with_sign_bit}
 use Rattle.mv_codes.specs.Coefficients.{pair_by, coef_codes, codes_14, codes_15, first_codes_14, levels_14, levels_15, level_row}
-use Rattle.mv_codes.specs.Spelled.{has_code, code_or, code_of, same_integer, same_coef}
-use Rattle.mv_codes.specs.Steps.{HoldsCode, coded_levels, coded_before, sum_before, is_coded, level_place, has_one_bit, end_bits}
-use Rattle.mv_codes.specs.declared.write_coefficient.TheConstants.{LEVEL_VALUES_14, LEVEL_SIZES_14, LEVEL_VALUES_15, LEVEL_SIZES_15}
-use Rattle.mv_codes.proofs.SpelledLaws.{and_true, holds, holds_code, all_below, each_below}
+use Rattle.mv_codes.specs.Spelled.{has_code, code_or, code_of, same_integer, same_coef, twos_12, escape_bits, coefficient_bits}
+use Rattle.mv_codes.specs.Steps.{HoldsCode, coded_levels, coded_before, sum_before, is_coded, level_place, has_one_bit, escape_digits}
+use Rattle.mv_codes.specs.declared.put_coefficient.TheConstants.{LEVEL_VALUES_14, LEVEL_SIZES_14, LEVEL_VALUES_15, LEVEL_SIZES_15}
+use Rattle.mv_codes.proofs.SpelledLaws.{and_true, code_otherwise, code_whatever, holds, holds_code, all_below, each_below}
 
 -- the first row of this run and magnitude
 abbrev find_row : List (Code (ℕ × ℕ)) → ℕ → ℕ → Option (Code (ℕ × ℕ))
@@ -294,42 +295,49 @@ one_bit_bits false true run level e =
     sym (rows_bits false true [] run level ∙ signed_bits run level [] (rows_of false true) (rows_some false true) ∙ ap (found_bits [] level) found)
 
 -- the end and the escape
-pub end_has : (table_15 first : Bool) → has_code (same_coef End) (coef_codes table_15 first) ≡ (table_15 || not first)
-unfolding codes_14 codes_15 first_codes_14 levels_14
-end_has true first = refl
-end_has false true = refl
-end_has false false = refl
-
-pub escape_has : (table_15 first : Bool) → has_code (same_coef Escape) (coef_codes table_15 first) ≡ true
-unfolding codes_14 codes_15 first_codes_14
-escape_has true first = refl
-escape_has false true = refl
-escape_has false false = refl
-
-pub end_is : (table_15 first : Bool) → has_code (same_coef End) (coef_codes table_15 first) ≡ true → end_bits table_15 ≡ code_of (same_coef End) (coef_codes table_15 first)
+end_is : (table_15 : Bool) → cond table_15 (digits 4 6) (digits 2 2) ≡ code_of (same_coef End) (coef_codes table_15 false)
 unfolding codes_14 codes_15 digits
-end_is true first h = refl
-end_is false true h = absurd (let f : false ≡ true = sym (end_has false true) ∙ h in cc)
-end_is false false h = refl
+end_is true = refl
+end_is false = refl
 
-pub escape_is : (table_15 first : Bool) → digits 6 1 ≡ code_of (same_coef Escape) (coef_codes table_15 first)
+escape_is : (table_15 first : Bool) → digits 6 1 ≡ code_of (same_coef Escape) (coef_codes table_15 first)
 unfolding codes_14 codes_15 first_codes_14 digits
 escape_is true first = refl
 escape_is false true = refl
 escape_is false false = refl
 
+-- the digits of a number and of another one behind it
+digits_behind : (c n high low : ℕ) → low < 2 ^ n → digits (c + n) (high * 2 ^ n + low) ≡ digits c high ++ digits n low
+digits_behind c n high low h =
+    let same : digits n (high * 2 ^ n + low) ≡ digits n low = sym (rw (add-zero n) at (digits-mod n 0 (high * 2 ^ n + low))) ∙ ap (digits n) (mod_low high n low h) in
+    digits-add c n (high * 2 ^ n + low) ∙ rw (shr_high high n low h, same) refl
+
+escape_digits_are : (run : ℕ) (level : ℤ) → run < 64 → twos_12 level < 4096 → digits 24 ((64 + run) * 4096 + twos_12 level) ≡ escape_digits run level
+escape_digits_are run level r l =
+    digits_behind 12 12 (64 + run) (twos_12 level) l
+    ∙ ap (λ (z : List Bool). z ++ digits 12 (twos_12 level)) (digits_behind 6 6 1 run r)
+    ∙ append_assoc (digits 6 1) (digits 6 run) (digits 12 (twos_12 level))
+
 -- ---- as the writer uses them
 
+module _ {S Kind : Type 0} (stands : S → Kind → List ℕ → Type 0) (p q : S) (a b : List Bool) (table_15 : Bool) where
+  end_put : (t : Bool) → table_15 ≡ t → Writes stands p q a b (cond t (digits 4 6) (digits 2 2)) → Writes stands p q a b (code_of (same_coef End) (coef_codes table_15 false))
+  end_put t is w = subst (λ (z : List Bool). Writes stands p q a b z) (ap (λ (u : Bool). cond u (digits 4 6) (digits 2 2)) (sym is) ∙ end_is table_15) w
+
+  pub end_15_put : table_15 ≡ true → Writes stands p q a b (digits 4 6) → Writes stands p q a b (code_of (same_coef End) (coef_codes table_15 false))
+  end_15_put is w = end_put true is w
+
+  pub end_14_put : table_15 ≡ false → Writes stands p q a b (digits 2 2) → Writes stands p q a b (code_of (same_coef End) (coef_codes table_15 false))
+  end_14_put is w = end_put false is w
+
+-- an escape, with the run and the level behind it in one number
+pub escape_put : {S Kind : Type 0} (stands : S → Kind → List ℕ → Type 0) (p q : S) (a b : List Bool) (run number : ℕ) (level : ℤ) → run < 64 → number ≡ twos_12 level → number < 4096
+    → Writes stands p q a b (digits 24 ((64 + run) * 4096 + number)) → Writes stands p q a b (escape_digits run level)
+escape_put stands p q a b run number level r e few w =
+    subst (λ (z : List Bool). Writes stands p q a b z)
+    (ap (λ (n : ℕ). digits 24 ((64 + run) * 4096 + n)) e ∙ escape_digits_are run level r (subst (λ (n : ℕ). n < 4096) e few)) w
+
 module _ {S Kind : Type 0} (stands : S → Kind → List ℕ → Type 0) (p q : S) (a b : List Bool) (table_15 first : Bool) where
-  pub end_put : (v : Coef) → v ≡ End → has_code (same_coef v) (coef_codes table_15 first) ≡ true → Writes stands p q a b (end_bits table_15) → Writes stands p q a b (code_of (same_coef v) (coef_codes table_15 first))
-  end_put v is h w =
-      let e = end_is table_15 first (subst (λ (x : Coef). has_code (same_coef x) (coef_codes table_15 first) ≡ true) is h) in
-      subst (λ (x : Coef). Writes stands p q a b (code_of (same_coef x) (coef_codes table_15 first))) (sym is) (subst (λ (z : List Bool). Writes stands p q a b z) e w)
-
-  pub escape_put : (v : Coef) → v ≡ Escape → Writes stands p q a b (digits 6 1) → Writes stands p q a b (code_of (same_coef v) (coef_codes table_15 first))
-  escape_put v is w =
-      subst (λ (x : Coef). Writes stands p q a b (code_of (same_coef x) (coef_codes table_15 first))) (sym is) (subst (λ (z : List Bool). Writes stands p q a b z) (escape_is table_15 first) w)
-
   module _ (run : ℕ) (level : ℤ) (magnitude sign : ℕ) (m : magnitude ≡ unsigned_abs level) (s : sign ≡ worth (int_lt level (pos 0))) where
     pub one_bit_put : (t : Bool) → t ≡ has_one_bit run magnitude table_15 first → t ≡ true → Writes stands p q a b (digits 2 (2 + sign)) → Writes stands p q a b (code_of (same_coef (Pair run level)) (coef_codes table_15 first))
     one_bit_put t e is w =
@@ -360,6 +368,21 @@ module _ {S Kind : Type 0} (stands : S → Kind → List ℕ → Type 0) (p q : 
       pub put_14 : (at : ℕ) → at ≡ level_place run magnitude → table_15 ≡ false → Writes stands p q a b (digits (get_or LEVEL_SIZES_14 at 0 + 1) (2 * get_or LEVEL_VALUES_14 at 0 + sign)) → Writes stands p q a b (code_of (same_coef (Pair run level)) (coef_codes table_15 first))
       put_14 at is u w = level_put at is (subst (λ (x : Bool). Writes stands p q a b (digits (get_or (sizes_of x) at 0 + 1) (2 * get_or (values_of x) at 0 + sign))) (sym u) w)
 
-pub pair_has : (table_15 first : Bool) (v : Coef) (run : ℕ) (level : ℤ) (magnitude : ℕ) (t : Bool) → v ≡ Pair run level → magnitude ≡ unsigned_abs level → t ≡ is_coded run magnitude → t ≡ has_code (same_coef v) (coef_codes table_15 first)
-pair_has table_15 first v run level magnitude t is m e =
-    e ∙ ap (is_coded run) m ∙ sym (level_has table_15 first run level) ∙ ap (λ (x : Coef). has_code (same_coef x) (coef_codes table_15 first)) (sym is)
+  -- a run and a level by their code, or else by an escape
+  module _ (run : ℕ) (level : ℤ) (magnitude : ℕ) (m : magnitude ≡ unsigned_abs level) (t : Bool) (found : t ≡ is_coded run magnitude) where
+    has_is : has_code (same_coef (Pair run level)) (coef_codes table_15 first) ≡ t
+    has_is = level_has table_15 first run level ∙ sym (found ∙ ap (is_coded run) m)
+
+    pub has_it : t ≡ true → has_code (same_coef (Pair run level)) (coef_codes table_15 first) ≡ true
+    has_it e = has_is ∙ e
+
+    pub code_put : t ≡ true → Writes stands p q a b (code_of (same_coef (Pair run level)) (coef_codes table_15 first)) → Writes stands p q a b (coefficient_bits (coef_codes table_15 first) run level)
+    code_put e w =
+        subst (λ (z : List Bool). Writes stands p q a b z)
+        (code_whatever (same_coef (Pair run level)) [] (escape_bits (coef_codes table_15 first) run level) (coef_codes table_15 first) (has_is ∙ e)) w
+
+    pub else_put : t ≡ false → Writes stands p q a b (escape_digits run level) → Writes stands p q a b (coefficient_bits (coef_codes table_15 first) run level)
+    else_put e w =
+        subst (λ (z : List Bool). Writes stands p q a b z)
+        (ap (λ (z : List Bool). z ++ (digits 6 run ++ digits 12 (twos_12 level))) (escape_is table_15 first)
+        ∙ sym (code_otherwise (same_coef (Pair run level)) (escape_bits (coef_codes table_15 first) run level) (coef_codes table_15 first) (has_is ∙ e))) w

@@ -1,6 +1,7 @@
 -- What the writers' inner steps say of their lists of codes.
-use Rattle.std.specs.Prelude.{ℕ, ◌+◌, ◌-◌, ◌*◌, ◌^◌, ◌<◌, ◌≤◌, ◌==◌, ◌&&◌, not, nat_lt, nat_le, Bool, List, [], ◌∷◌, ◌++◌, length, get_or, replicate, if◌then◌else◌}
+use Rattle.std.specs.Prelude.{ℕ, ◌+◌, ◌-◌, ◌*◌, ◌^◌, ◌<◌, ◌≤◌, ◌==◌, ◌&&◌, not, nat_lt, nat_le, Bool, List, [], ◌∷◌, ◌++◌, length, get_or, replicate, ℤ}
 use Rattle.mv_bits.specs.Bits.{worth, digits}
+use Rattle.mv_codes.specs.Spelled.{twos_12}
 use Rattle.mv_codes.specs.declared.increment.Increment.{Increment}
 use Rattle.mv_codes.specs.declared.increment.Increment.TheVariants as increment
 use Rattle.mv_codes.specs.declared.macroblock_type.TypeBits.{TypeBits}
@@ -18,7 +19,8 @@ increment_place increment.Escape = 0
 
 abbrev pub flags_place : TypeBits → ℕ
 flags_place t =
-    worth t.quant + 2 * worth t.forward + 4 * worth t.backward + 8 * worth t.pattern + 16 * worth t.intra
+    worth t.quant + 2 * worth t.forward + 4 * worth t.backward + 8 * worth t.pattern
+    + 16 * worth t.intra
 
 -- how many levels have a code behind so many zeros, and how many codes stand before those
 unfoldable pub coded_levels : List ℕ
@@ -38,9 +40,9 @@ is_coded run magnitude = nat_lt 0 magnitude && nat_le magnitude (get_or coded_le
 abbrev pub level_place : ℕ → ℕ → ℕ
 level_place run magnitude = get_or coded_before run 0 + magnitude - 1
 
--- the code of the end of a block
-abbrev pub end_bits : Bool → List Bool
-end_bits table_15 = if table_15 then digits 4 6 else digits 2 2
+-- an escape by its digits, and a run and a level behind it
+abbrev pub escape_digits : ℕ → ℤ → List Bool
+escape_digits run level = digits 6 1 ++ (digits 6 run ++ digits 12 (twos_12 level))
 
 abbrev pub has_one_bit : ℕ → ℕ → Bool → Bool → Bool
 has_one_bit run magnitude table_15 first = not table_15 && (first && (run == 0 && magnitude == 1))

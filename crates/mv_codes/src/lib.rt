@@ -7,7 +7,8 @@
 //! `look_up_law` says that they name the right ones (`specs/LookUp.antt`).
 //!
 //! A writer puts the code that the table has for a value (`specs/Spelled.antt`), which it finds at the value's place in
-//! lists of its own; `written_law` says that each value of a row has one, and that it reads back.
+//! lists of its own, and `write_coefficient` an escape where the table has none; `written_law` says that each value of a
+//! row has a code, and that it reads back.
 #![tactic(auto)]
 
 mod code;
@@ -19,8 +20,8 @@ pub mod look_up;
 mod macroblock_type;
 mod motion;
 mod pattern;
+mod put_coefficient;
 mod write;
-mod write_coefficient;
 mod write_laws;
 
 pub use code::Code;
@@ -31,8 +32,8 @@ pub use laws::look_up_law;
 pub use macroblock_type::{TypeBits, read_type};
 pub use motion::read_motion;
 pub use pattern::read_pattern;
+pub use put_coefficient::{write_coefficient, write_end};
 pub use write::{write_dc_size, write_increment, write_motion, write_pattern, write_type};
-pub use write_coefficient::{has_coef, write_coef};
 pub use write_laws::written_law;
 
 #[cfg(test)]

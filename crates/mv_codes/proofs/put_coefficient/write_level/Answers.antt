@@ -1,5 +1,5 @@
 use Rattle.mv_codes.proofs.LevelFacts.{one_bit_put, is_there, holds_15, holds_14, put_15, put_14}
-use Rattle.mv_codes.proofs.write_coefficient.write_level.Goals as goal
+use Rattle.mv_codes.proofs.put_coefficient.write_level.Goals as goal
 
 pub returns-then-has_one_bit : goal.returns-then-has_one_bit
 returns-then-has_one_bit g c = one_bit_put g.P.Put.stands c.args.to.now c.put.new.to c.args.out.now c.put.new.self c.args.table_15 c.args.first c.args.run c.args.level.now c.magnitude-magnitude.result c.sign_bit-sign.result c.magnitude-magnitude.ensures c.sign_bit-sign.ensures.value c.has_one_bit.result c.has_one_bit.ensures c.if-has_one_bit.true c.put.ensures.written

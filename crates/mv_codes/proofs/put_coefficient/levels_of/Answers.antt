@@ -1,7 +1,7 @@
 use Rattle.std.proofs.Common.{refl}
 use Rattle.mv_codes.specs.Steps.{coded_levels}
 use Rattle.mv_codes.proofs.LevelFacts.{levels_past}
-use Rattle.mv_codes.proofs.write_coefficient.levels_of.Goals as goal
+use Rattle.mv_codes.proofs.put_coefficient.levels_of.Goals as goal
 
 pub returns-then-run-lt32 : goal.returns-then-run-lt32
 unfolding coded_levels

@@ -1,48 +1,70 @@
 //! The writer of the codes of coefficients.
-ghost use Rattle.std.specs.Prelude.{◌≡◌, ◌+◌, ◌*◌, ◌<◌, ◌||◌, not, int_lt, pos, unsigned_abs, get_or, IsTrue};
+ghost use Rattle.std.specs.Prelude.{◌≡◌, ◌+◌, ◌*◌, ◌<◌, false, int_lt, pos, unsigned_abs, get_or, IsTrue};
 ghost use Rattle.mv_bits.specs.Bits.{digits, worth};
 ghost use Rattle.mv_bits.specs.Writing.{Writes};
 ghost use Rattle.mv_codes.specs.Coefficients.{coef_codes};
-ghost use Rattle.mv_codes.specs.Spelled.{code_of, has_code, same_coef};
-ghost use Rattle.mv_codes.specs.declared.coefficient.Coef.TheVariants.{Pair};
-ghost use Rattle.mv_codes.specs.Steps.{HoldsCode, coded_levels, end_bits, has_one_bit, is_coded, level_place};
+ghost use Rattle.mv_codes.specs.Spelled.{code_of, coefficient_bits, has_code, same_coef, twos_12};
+ghost use Rattle.mv_codes.specs.declared.coefficient.Coef.TheVariants.{End, Pair};
+ghost use Rattle.mv_codes.specs.Steps.{HoldsCode, coded_levels, escape_digits, has_one_bit, is_coded, level_place};
 
-use crate::coefficient::Coef;
 use mv_bits::{BitWriter, Put};
 
-/// Whether the table has a code of this coefficient: Table B.15, or Table B.14 for the first coefficient of a non-intra
-/// block or not (H.262, 7.2.2).
-pub fn has_coef(v: Coef, table_15: bool, first: bool) -> bool
-    ensures { result ≡ has_code (same_coef v) (coef_codes table_15 first) }
-{
-    match v {
-        Coef::End => has_end(table_15, first),
-        Coef::Escape => true,
-        Coef::Pair(run, level) => has_level(run, magnitude(&level)),
-    }
-}
-
-/// Writes a coefficient that has a code, which `has_coef` tells.
-pub fn write_coef<P: Put>(v: Coef, table_15: bool, first: bool, out: &mut BitWriter, to: &mut P)
-    requires { IsTrue (has_code (same_coef v) (coef_codes table_15 first)) }
+/// Writes a run of 0 to 63 and a level of -2047 to 2047: their code in Table B.15, or in Table B.14 for the first
+/// coefficient of a non-intra block or not, and an escape where the table has none (H.262, 7.2.2).
+#[inline(always)]
+pub fn write_coefficient<P: Put>(
+    run: u8,
+    level: &i16,
+    table_15: bool,
+    first: bool,
+    out: &mut BitWriter,
+    to: &mut P,
+)
+    requires run { run < 64 }
+    requires level { unsigned_abs level.now < 2048 }
     ensures { Writes P.stands to.old to.new out.old out.new
-        (code_of (same_coef v) (coef_codes table_15 first)) }
+        (coefficient_bits (coef_codes table_15 first) run level.now) }
 {
-    match v {
-        Coef::End => write_end(table_15, out, to),
-        Coef::Escape => out.put(1, 6, to),
-        Coef::Pair(run, level) => write_level(run, &level, table_15, first, out, to),
+    if has_level(run, magnitude(level)) {
+        write_level(run, level, table_15, first, out, to);
+    } else {
+        write_escape(run, level, out, to);
     }
 }
 
-/// Writes the end of a block, which is no first coefficient.
-fn write_end<P: Put>(table_15: bool, out: &mut BitWriter, to: &mut P)
-    ensures { Writes P.stands to.old to.new out.old out.new (end_bits table_15) }
+/// Writes the end of a block, behind its first coefficient.
+#[inline(always)]
+pub fn write_end<P: Put>(table_15: bool, out: &mut BitWriter, to: &mut P)
+    ensures { Writes P.stands to.old to.new out.old out.new
+        (code_of (same_coef End) (coef_codes table_15 false)) }
 {
     if table_15 {
         out.put(0b0110, 4, to);
     } else {
         out.put(0b10, 2, to);
+    }
+}
+
+/// Writes an escape, and a run and a level behind it (H.262, 7.2.2.3).
+fn write_escape<P: Put>(run: u8, level: &i16, out: &mut BitWriter, to: &mut P)
+    requires run { run < 64 }
+    requires level { unsigned_abs level.now < 2048 }
+    ensures { Writes P.stands to.old to.new out.old out.new (escape_digits run level.now) }
+{
+    let escape_and_run = 64 + run as u32;
+    out.put(escape_and_run * 4096 + twos_12(level), 24, to);
+}
+
+/// A level as a number of 12 bits in two's complement.
+fn twos_12(level: &i16) -> u32
+    requires { unsigned_abs level.now < 2048 }
+    ensures value { result ≡ twos_12 level.now }
+    ensures fits { result < 4096 }
+{
+    if *level < 0 {
+        4096 - u32::from(level.unsigned_abs())
+    } else {
+        u32::from(level.unsigned_abs())
     }
 }
 
@@ -121,12 +143,6 @@ fn level_place(run: u8, magnitude: u16) -> usize
     ensures { result ≡ level_place run magnitude }
 {
     BEFORE[run as usize] as usize + magnitude as usize - 1
-}
-
-fn has_end(table_15: bool, first: bool) -> bool
-    ensures { result ≡ (table_15 || not first) }
-{
-    table_15 || !first
 }
 
 fn magnitude(level: &i16) -> u16
