@@ -2,7 +2,8 @@
 use Rattle.std.proofs.Common.{◌≡◌, Bool, true, false, List, get_or, refl, ℤ, pos}
 use Rattle.std.specs.Prelude.{slice_index_or}
 use Rattle.mv_blocks.specs.declared.block.BlockCode.{BlockCode}
-use Rattle.mv_blocks.specs.Blocks.{DcLevel, IsDcLevel, Pairs, BlockBy, Block, pairs_of}
+use Rattle.mv_terms.specs.Ranges.{IsDcLevel}
+use Rattle.mv_blocks.specs.Blocks.{DcLevel, Pairs, BlockBy, Block, pairs_of}
 use Rattle.mv_terms.specs.declared.status.Why.{Why}
 use Rattle.mv_bits.specs.ReadBack.{ReadsBack}
 use Rattle.mv_bits.proofs.BackLaws.{back_gives, back_then, back_last}

@@ -14,7 +14,8 @@ use Rattle.mv_codes.proofs.TableFacts.{coefs_apart, dc_sizes_apart}
 use Rattle.mv_blocks.specs.declared.block.BlockCode.{BlockCode}
 use Rattle.mv_blocks.specs.declared.block.Pair.{Pair}
 use Rattle.mv_blocks.specs.Raster.{in_raster}
-use Rattle.mv_blocks.specs.Blocks.{At, StepsPair, StopsBlock, EndsBlock, Next, Coefficient, Escaped, Behind, IsInside, IsForbidden, signed_12, pair, codes_at, DcLevel, IsDcLevel, dct_diff, Pairs, IntraBlock, NonIntraBlock, BlockBy, Block, level_at, intra_level_at}
+use Rattle.mv_terms.specs.Ranges.{IsDcLevel}
+use Rattle.mv_blocks.specs.Blocks.{At, StepsPair, StopsBlock, EndsBlock, Next, Coefficient, Escaped, Behind, IsInside, IsForbidden, signed_12, pair, codes_at, DcLevel, dct_diff, Pairs, IntraBlock, NonIntraBlock, BlockBy, Block, level_at, intra_level_at}
 
 one_escaped : HasOne Escaped
 one_escaped =

@@ -6,7 +6,7 @@ use Rattle.mv_bits.specs.ZeroRuns.{IsBounded}
 use Rattle.mv_bits.proofs.ZeroRunLaws.{bounded_wider, bounded_append, bounded_digits, bounded_number}
 use Rattle.mv_codes.specs.declared.coefficient.Coef.TheVariants as coef
 use Rattle.mv_codes.specs.Coefficients.{coef_codes}
-use Rattle.mv_codes.specs.Spelled.{code_of, has_code, same_coef, same_number}
+use Rattle.mv_codes.specs.Spelled.{code_of, has_code, same_coef, same_number, twos_12, escape_bits}
 use Rattle.mv_codes.specs.Sizes.{dc_size_codes}
 use Rattle.mv_codes.proofs.SpelledLaws.{each_below}
 use Rattle.mv_codes.proofs.RunFacts.{bounded_code_or, coefs_bounded_11, escape_is, end_bounded}
@@ -14,7 +14,7 @@ use Rattle.mv_codes.proofs.BoundedLaws.{dc_size_bounded}
 use Rattle.mv_blocks.specs.declared.block.BlockCode.{BlockCode}
 use Rattle.mv_blocks.specs.declared.block.Pair.{Pair}
 use Rattle.mv_blocks.specs.Blocks.{codes_at, pairs_of}
-use Rattle.mv_blocks.specs.Written.{dc_size, dc_bits, differential, twos_12, escape_bits, pair_bits, pairs_bits, block_bits_by, has_level, IsCoded, Fit, BlockIsBounded}
+use Rattle.mv_blocks.specs.Written.{dc_size, dc_bits, differential, pair_bits, pairs_bits, block_bits_by, has_level, IsCoded, Fit, BlockIsBounded}
 use Rattle.mv_blocks.proofs.DcBack.{size_bound, each_size_coded}
 use Rattle.mv_blocks.proofs.PairsBack.{not_first}
 use Rattle.mv_blocks.proofs.FitLaws.{intra_fit, non_intra_fit}
@@ -36,7 +36,7 @@ module _ (code : BlockCode) where
       let table_15 = code.intra && code.table_15 in
       let first = not code.intra && eqb place 0 in
       let escape = ap (λ (z : List Bool). z ++ (digits 6 p.run ++ digits 12 (twos_12 p.level))) (escape_is table_15 first) in
-      bounded_code_or 11 11 24 (escape_bits (codes_at code place) p) (same_coef (coef.Pair p.run p.level)) (codes_at code place) (coefs_bounded_11 table_15 first)
+      bounded_code_or 11 11 24 (escape_bits (codes_at code place) p.run p.level) (same_coef (coef.Pair p.run p.level)) (codes_at code place) (coefs_bounded_11 table_15 first)
       (subst (λ (z : List Bool). IsBounded 11 z 11 24) (sym escape) (escape_bounded p coded))
 
   block_end_bounded : (place : ℕ) → 0 < place → IsBounded 11 (pairs_bits code place []) 1 4

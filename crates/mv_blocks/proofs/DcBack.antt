@@ -11,7 +11,8 @@ use Rattle.mv_bits.specs.Readings.{Field, Demands}
 use Rattle.mv_codes.specs.Tables.{CodeOf}
 use Rattle.mv_codes.specs.Sizes.{dc_size_codes, luma_size_codes, chroma_size_codes}
 use Rattle.mv_blocks.specs.declared.block.BlockCode.{BlockCode}
-use Rattle.mv_blocks.specs.Blocks.{DcLevel, IsDcLevel, dct_diff}
+use Rattle.mv_terms.specs.Ranges.{IsDcLevel}
+use Rattle.mv_blocks.specs.Blocks.{DcLevel, dct_diff}
 use Rattle.mv_terms.specs.declared.status.Why.{Why}
 use Rattle.mv_bits.specs.ReadBack.{ReadsBack}
 use Rattle.mv_codes.specs.Spelled.{has_code, same_number}

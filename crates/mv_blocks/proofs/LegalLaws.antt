@@ -8,7 +8,7 @@ use Rattle.std.proofs.Math.Pow.{pow_mono}
 use Rattle.std.proofs.lemmas.Int.{ints}
 use Rattle.std.proofs.lemmas.List.Elements.{All-from_recursion}
 use Rattle.mv_terms.specs.declared.status.Why.{Why}
-use Rattle.mv_terms.specs.Ranges.{IsLevel}
+use Rattle.mv_terms.specs.Ranges.{IsLevel, IsDcLevel}
 use Rattle.mv_bits.specs.Runs.{Runs}
 use Rattle.mv_bits.proofs.BitLaws.{front_lt}
 use Rattle.mv_bits.proofs.ReadingLaws.{ok_same}
@@ -21,7 +21,7 @@ use Rattle.mv_blocks.specs.declared.block.BlockCode.{BlockCode}
 use Rattle.mv_blocks.specs.declared.block.Pair.{Pair}
 use Rattle.mv_terms.specs.Scans.{scan}
 use Rattle.mv_blocks.specs.Raster.{in_raster}
-use Rattle.mv_blocks.specs.Blocks.{At, StepsPair, Next, Coefficient, Escaped, Behind, IsForbidden, signed_12, pair, codes_at, DcLevel, IsDcLevel, dct_diff, BlockBy, level_at, intra_level_at}
+use Rattle.mv_blocks.specs.Blocks.{At, StepsPair, Next, Coefficient, Escaped, Behind, IsForbidden, signed_12, pair, codes_at, DcLevel, dct_diff, BlockBy, level_at, intra_level_at}
 use Rattle.mv_codes.proofs.SpelledLaws.{and_true}
 use Rattle.mv_blocks.specs.Written.{IsCoded}
 

@@ -10,6 +10,8 @@ mod PairsBack
 mod FitLaws
 pub mod BoundedLaws
 mod DcWritten
+mod CountLemmas
+mod PlaceLemmas
 mod WriteLemmas
 mod WritableLaws
 pub mod BlockBack

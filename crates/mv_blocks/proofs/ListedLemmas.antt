@@ -25,7 +25,7 @@ module _ (levels : List ℤ) (intra alternate : Bool) where
   unfolding in_scan
   scan_long = refl
 
-  scan_at : (k : ℕ) → k < 64 → get_or (in_scan alternate levels) k (pos 0) ≡ level k
+  pub scan_at : (k : ℕ) → k < 64 → get_or (in_scan alternate levels) k (pos 0) ≡ level k
   unfolding in_scan
   scan_at k h = get_or-map level (range_with_len 0 64) k 0 (pos 0) h ∙ ap level (get_or-range_with_len 0 64 k 0 h ∙ none_added k)
     where

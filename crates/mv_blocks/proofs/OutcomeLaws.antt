@@ -15,7 +15,8 @@ use Rattle.mv_codes.proofs.TableLaws.{some_code}
 use Rattle.mv_blocks.specs.declared.block.BlockCode.{BlockCode}
 use Rattle.mv_blocks.specs.declared.block.Pair.{Pair}
 use Rattle.mv_blocks.specs.Raster.{in_raster}
-use Rattle.mv_blocks.specs.Blocks.{At, StepsPair, StopsBlock, EndsBlock, Next, Coefficient, Escaped, Behind, IsInside, IsForbidden, signed_12, pair, codes_at, DcLevel, IsDcLevel, dct_diff, Pairs, BlockBy, Block, level_at, intra_level_at}
+use Rattle.mv_terms.specs.Ranges.{IsDcLevel}
+use Rattle.mv_blocks.specs.Blocks.{At, StepsPair, StopsBlock, EndsBlock, Next, Coefficient, Escaped, Behind, IsInside, IsForbidden, signed_12, pair, codes_at, DcLevel, dct_diff, Pairs, BlockBy, Block, level_at, intra_level_at}
 use Rattle.mv_blocks.proofs.BlockLaws.{one_block}
 
 some_allowed : (n : ℕ) → IsForbidden (pos (suc n)) → ⊥

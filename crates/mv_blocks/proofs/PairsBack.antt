@@ -13,10 +13,10 @@ use Rattle.mv_blocks.specs.declared.block.Pair.{Pair}
 use Rattle.mv_blocks.specs.Blocks.{EndsBlock, Next, Coefficient, Escaped, Behind, IsInside, IsForbidden, signed_12, pair, codes_at, Pairs}
 use Rattle.mv_terms.specs.declared.status.Why.{Why}
 use Rattle.mv_bits.specs.ReadBack.{ReadsBack}
-use Rattle.mv_codes.specs.Spelled.{code_of, has_code, same_coef}
+use Rattle.mv_codes.specs.Spelled.{code_of, has_code, same_coef, twos_12, escape_bits}
 use Rattle.mv_bits.proofs.BackLaws.{back_gives, back_then, back_last, back_second, back_field, back_demand}
 use Rattle.mv_codes.proofs.SpelledLaws.{code_otherwise}
-use Rattle.mv_blocks.specs.Written.{IsCoded, Fit, twos_12, escape_bits, pair_bits, pairs_bits}
+use Rattle.mv_blocks.specs.Written.{IsCoded, Fit, pair_bits, pairs_bits}
 use Rattle.mv_codes.specs.Coefficients.{coef_codes, codes_14, codes_15, first_codes_14, levels_14, levels_15}
 use Rattle.mv_codes.proofs.WrittenLaws.{coefs_written}
 use Rattle.mv_codes.proofs.SpelledLaws.{code_whatever}
@@ -68,11 +68,11 @@ module _ (code : BlockCode) where
     where
       go : (t : Bool) → has_code (same_coef (coef.Pair p.run p.level)) (codes_at code place) ≡ t → ReadsBack Why (Coefficient code place) (Some p) (pair_bits (codes_at code place) p)
       go true e =
-          subst (λ (bits : List Bool). ReadsBack Why (Coefficient code place) (Some p) bits) (code_whatever (same_coef (coef.Pair p.run p.level)) [] (escape_bits (codes_at code place) p) (codes_at code place) e)
+          subst (λ (bits : List Bool). ReadsBack Why (Coefficient code place) (Some p) bits) (code_whatever (same_coef (coef.Pair p.run p.level)) [] (escape_bits (codes_at code place) p.run p.level) (codes_at code place) e)
           (back_last (CodeOf (codes_at code place) BadCode) Behind (coef.Pair p.run p.level) (Some p) _ (code_back place (coef.Pair p.run p.level) e)
           (back_gives (Some (pair p.run p.level)) (Some p) refl))
       go false e =
-          subst (λ (bits : List Bool). ReadsBack Why (Coefficient code place) (Some p) bits) (sym (code_otherwise (same_coef (coef.Pair p.run p.level)) (escape_bits (codes_at code place) p) (codes_at code place) e))
+          subst (λ (bits : List Bool). ReadsBack Why (Coefficient code place) (Some p) bits) (sym (code_otherwise (same_coef (coef.Pair p.run p.level)) (escape_bits (codes_at code place) p.run p.level) (codes_at code place) e))
           (back_then (CodeOf (codes_at code place) BadCode) Behind coef.Escape (Some p) _ _ (code_back place coef.Escape (escape_has (code.intra && code.table_15) (not code.intra && eqb place 0)))
           (escaped_back p inside coded))
 

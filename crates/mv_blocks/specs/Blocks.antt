@@ -1,6 +1,7 @@
 -- The bits of a block, and its levels (H.262, 6.2.6 and 7.2).
-use Rattle.std.specs.Prelude.{ℕ, zero, suc, ◌≡◌, ◌+◌, ◌*◌, ◌^◌, ◌<◌, ◌==◌, ◌⊎◌, nat_lt, Bool, true, false, not, ◌&&◌, List, [], ◌∷◌, drop, map, if◌then◌else◌, slice_index_or, ℤ, pos, neg_ℤ, ◌+ℤ◌, ◌-ℤ◌, ◌≤ℤ◌, ◌<ℤ◌, Result, Ok, Err, Option, Some, None, ⊤}
+use Rattle.std.specs.Prelude.{ℕ, zero, suc, ◌≡◌, ◌+◌, ◌*◌, ◌^◌, ◌<◌, ◌==◌, ◌⊎◌, nat_lt, Bool, true, false, not, ◌&&◌, List, [], ◌∷◌, drop, map, if◌then◌else◌, slice_index_or, ℤ, pos, neg_ℤ, ◌+ℤ◌, ◌-ℤ◌, Result, Ok, Err, Option, Some, None, ⊤}
 use Rattle.std.specs.List.{range_with_len}
+use Rattle.mv_terms.specs.Ranges.{IsDcLevel}
 use Rattle.mv_terms.specs.declared.status.Why.{Why}
 use Rattle.mv_terms.specs.declared.status.Why.TheVariants.{BadCode, BadBlock}
 use Rattle.mv_bits.specs.Readings.{◌>>=◌, Gives, Field, Demands}
@@ -22,10 +23,6 @@ dct_diff zero differential = pos 0
 dct_diff (suc n) differential =
     if nat_lt differential (2 ^ n)
     then (pos (differential + 1) -ℤ pos (2 * 2 ^ n)) else pos differential
-
--- the DC levels of a precision (H.262, 7.2.1)
-abbrev pub IsDcLevel : ℕ → ℤ → Type 0
-IsDcLevel precision level = (pos 0 ≤ℤ level) × (level <ℤ pos (2 ^ (8 + precision)))
 
 -- the DC level of an intra block: the predictor and a difference from it
 abbrev pub DcLevel : BlockCode → ℤ → List Bool → Result (ℤ × List Bool) Why → Type 0

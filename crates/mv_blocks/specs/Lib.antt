@@ -1,3 +1,4 @@
 pub mod Raster
 pub mod Blocks
 pub mod Written
+pub mod Steps

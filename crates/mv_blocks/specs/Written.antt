@@ -2,7 +2,7 @@
 -- else an escape.
 use Rattle.std.specs.Prelude.{◌≡◌, ℕ, zero, suc, ◌+◌, ◌-◌, ◌^◌, ◌<◌, ◌≤◌, ◌==◌, ◌||◌, not, nat_lt, Bool, true, false, List, [], ◌∷◌, ◌++◌, length, if◌then◌else◌, slice_index_or, ℤ, pos, negsuc, ◌-ℤ◌, int_lt, unsigned_abs, All, Ok}
 use Rattle.mv_terms.specs.declared.status.Why.{Why}
-use Rattle.mv_terms.specs.Ranges.{IsLevel}
+use Rattle.mv_terms.specs.Ranges.{IsLevel, IsDcLevel}
 use Rattle.mv_bits.specs.Bits.{digits}
 use Rattle.mv_bits.specs.ReadBack.{ReadsBack}
 use Rattle.mv_bits.specs.ZeroRuns.{IsBounded}
@@ -10,11 +10,11 @@ use Rattle.mv_codes.specs.declared.code.Code.{Code}
 use Rattle.mv_codes.specs.declared.coefficient.Coef.{Coef}
 use Rattle.mv_codes.specs.declared.coefficient.Coef.TheVariants as coef
 use Rattle.mv_codes.specs.Sizes.{dc_size_codes}
-use Rattle.mv_codes.specs.Spelled.{code_or, code_of, same_coef, same_number}
+use Rattle.mv_codes.specs.Spelled.{code_of, coefficient_bits, same_coef, same_number}
 use Rattle.mv_blocks.specs.declared.block.BlockCode.{BlockCode}
 use Rattle.mv_blocks.specs.declared.block.Pair.{Pair}
 use Rattle.mv_blocks.specs.Raster.{in_raster}
-use Rattle.mv_blocks.specs.Blocks.{Block, codes_at, level_at, intra_level_at, pairs_of, IsDcLevel}
+use Rattle.mv_blocks.specs.Blocks.{Block, codes_at, level_at, intra_level_at, pairs_of}
 
 -- the least size of at most n that has differences of this magnitude (H.262, Table B.12)
 abbrev pub size_within : ℕ → ℕ → ℕ
@@ -35,19 +35,9 @@ dc_bits luma difference =
     code_of (same_number (dc_size difference)) (dc_size_codes luma)
     ++ digits (dc_size difference) (differential (dc_size difference) difference)
 
--- a number of 12 bits in two's complement
-abbrev pub twos_12 : ℤ → ℕ
-twos_12 (pos n) = n
-twos_12 (negsuc n) = 4095 - n
-
--- an escape, and a run and a level behind it (H.262, 7.2.2.3)
-abbrev pub escape_bits : List (Code Coef) → Pair → List Bool
-escape_bits table p =
-    code_of (same_coef coef.Escape) table ++ (digits 6 p.run ++ digits 12 (twos_12 p.level))
-
 -- a run and a level
 abbrev pub pair_bits : List (Code Coef) → Pair → List Bool
-pair_bits table p = code_or (escape_bits table p) (same_coef (coef.Pair p.run p.level)) table
+pair_bits table p = coefficient_bits table p.run p.level
 
 -- runs and levels from a place of the scan on, and the end of the block
 abbrev pub pairs_bits : BlockCode → ℕ → List Pair → List Bool
@@ -93,7 +83,8 @@ Fit place (p ∷ ps) = (place + p.run < 64) × IsCoded p.level × Fit (place + p
 abbrev pub PairsGiveLevels : Type 0
 PairsGiveLevels = (alternate : Bool) (levels : List ℤ) → length levels ≡ 64
     → (in_raster alternate (level_at 0 (pairs_of levels false alternate)) ≡ levels)
-    × (in_raster alternate (intra_level_at (slice_index_or levels 0 (pos 0)) (pairs_of levels true alternate)) ≡ levels)
+    × (in_raster alternate (intra_level_at (slice_index_or levels 0 (pos 0))
+    (pairs_of levels true alternate)) ≡ levels)
 
 -- the canonical bits of a block read as its levels;
 abbrev pub BlockReadsBack : Type 0

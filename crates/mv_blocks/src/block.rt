@@ -2,7 +2,8 @@
 ghost use Rattle.std.specs.Prelude.{◌≡◌, ◌+◌, ◌^◌, ◌<◌, ◌≤◌, ◌≤ℤ◌, ◌<ℤ◌, ◌+ℤ◌, pos, neg_ℤ, IsTrue, ◌↔◌, OnOk, IfOk, slice_index_or, MatchOption, not, ◌&&◌, ◌==◌};
 ghost use Rattle.mv_bits.specs.Readings.{ReadsAs};
 ghost use Rattle.mv_terms.specs.Scans.{raster_place};
-ghost use Rattle.mv_blocks.specs.Blocks.{signed_12, IsForbidden, Coefficient, Escaped, Next, IsInside, Pairs, ReadsPairs, dct_diff, IsDcLevel, DcLevel, IntraReads, ReadsBlock, next_predictor, first_place, pairs_of};
+ghost use Rattle.mv_terms.specs.Ranges.{IsDcLevel};
+ghost use Rattle.mv_blocks.specs.Blocks.{signed_12, IsForbidden, Coefficient, Escaped, Next, IsInside, Pairs, ReadsPairs, dct_diff, DcLevel, IntraReads, ReadsBlock, next_predictor, first_place, pairs_of};
 
 use arrayvec::ArrayVec;
 use mv_bits::BitWindow;

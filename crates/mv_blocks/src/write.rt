@@ -1,15 +1,14 @@
 //! Blocks that are written (H.262, 6.2.6 and 7.2).
-ghost use Rattle.std.specs.Prelude.{◌≡◌, ◌==◌, ◌<◌, ◌≤◌, ◌||◌, not, ◌^◌, ◌-ℤ◌, drop, unsigned_abs};
+ghost use Rattle.std.specs.Prelude.{◌≡◌, ◌==◌, ◌<◌, ◌≤◌, ◌||◌, not, ◌^◌, ◌-ℤ◌, drop, take, unsigned_abs};
 ghost use Rattle.mv_bits.specs.Writing.{Writes};
-ghost use Rattle.mv_codes.specs.Coefficients.{coef_codes};
-ghost use Rattle.mv_codes.specs.Spelled.{code_of, same_coef};
-ghost use Rattle.mv_codes.specs.declared.coefficient.Coef.TheVariants as coef;
 ghost use Rattle.mv_blocks.specs.Blocks.{codes_at, in_scan, next_predictor, pairs_in};
-ghost use Rattle.mv_blocks.specs.Written.{Fit, IsCoded, IsWritable, block_bits, dc_bits, differential, has_level, pair_bits, pairs_bits, size_within, twos_12};
+ghost use Rattle.mv_blocks.specs.Written.{Fit, IsCoded, IsWritable, block_bits, dc_bits, differential, has_level, pair_bits, pairs_bits, size_within};
+ghost use Rattle.mv_blocks.specs.Steps.{count_levels, counted, level_places};
 
 use crate::block::{BlockCode, Pair, has_table_15, is_first, level_at};
 use mv_bits::{BitWriter, Put};
-use mv_codes::{Coef, has_coef, write_coef, write_dc_size};
+use mv_codes::{write_coefficient, write_dc_size, write_end};
+use mv_terms::raster_place;
 
 /// Writes a block: its 64 levels, which are in raster order. In an intra block `dc` is the predictor of its DC level,
 /// and becomes this level; else it stays. Each run and level has its code where the table has one, and else an escape.
@@ -106,7 +105,8 @@ fn differential(size: u8, difference: &i32) -> u32
     }
 }
 
-/// Writes the levels from a place of the scan on as runs and levels, and the end of the block.
+/// Writes the levels from the first place of the scan on, or from the one behind it, as runs and levels, and the end
+/// of the block. That the places are listed first spares a branch at each of them that can't be foretold.
 fn write_levels<P: Put>(
     code: BlockCode,
     start: usize,
@@ -114,72 +114,99 @@ fn write_levels<P: Put>(
     out: &mut BitWriter,
     to: &mut P,
 )
-    requires start { start ≤ 64 }
+    requires start { start ≤ 1 }
     requires fit { Fit start (pairs_in 0 (drop start (in_scan code.alternate levels.now))) }
     ensures { Writes P.stands to.old to.new out.old out.new
         (pairs_bits code start (pairs_in 0 (drop start (in_scan code.alternate levels.now)))) }
 {
-    let mut place = start;
-    'places: for k in start..64 {
-        let level = level_at(levels, code.alternate, k);
-        if level != 0 {
-            let run = (k - place) as u8;
-            write_pair(code, place, Pair { run, level }, out, to);
-            place = k + 1;
-        }
+    let mut places = [0; 64];
+    let listed = list_places(code.alternate, start, levels, &mut places);
+    write_listed(code, start, levels, &places[..listed], out, to);
+}
+
+/// Lists the places of the scan, from the first one or the one behind it on, whose level isn't zero, and answers how
+/// many these are. No place is looked at behind the last of them.
+fn list_places(alternate: bool, start: usize, levels: &[i16; 64], places: &mut [u8; 64]) -> usize
+    requires { start ≤ 1 }
+    ensures few { result ≤ 64 }
+    ensures listed { take result places.new
+        ≡ level_places start (drop start (in_scan alternate levels.now)) }
+{
+    let all = usize::from(levels_from(start, levels));
+    let mut listed = 0;
+    let mut k = start;
+    'places: while listed < all {
+        places[listed] = k as u8;
+        listed += usize::from(counted(&levels[raster_place(alternate, k)]));
+        k += 1;
     }
-    write_end(code, place, out, to);
+    listed
+}
+
+/// Writes the levels at the places of the scan that are listed, and the end of the block.
+fn write_listed<P: Put>(
+    code: BlockCode,
+    start: usize,
+    levels: &[i16; 64],
+    places: &[u8],
+    out: &mut BitWriter,
+    to: &mut P,
+)
+    requires listed { places.now
+        ≡ level_places start (drop start (in_scan code.alternate levels.now)) }
+    requires fit { Fit start (pairs_in 0 (drop start (in_scan code.alternate levels.now))) }
+    ensures { Writes P.stands to.old to.new out.old out.new
+        (pairs_bits code start (pairs_in 0 (drop start (in_scan code.alternate levels.now)))) }
+{
+    let mut next = start;
+    'places: for place in places {
+        let k = usize::from(*place);
+        let level = level_at(levels, code.alternate, k);
+        let run = (k - next) as u8;
+        write_pair(code, next, Pair { run, level }, out, to);
+        next = k + 1;
+    }
+    write_end(has_table_15(code), out, to);
+}
+
+/// How many levels from the first or second one on aren't zero.
+fn levels_from(start: usize, levels: &[i16; 64]) -> u16
+    requires { start ≤ 1 }
+    ensures { result ≡ count_levels (drop start levels.now) }
+{
+    let all = count_levels(levels);
+    if start == 0 {
+        all
+    } else {
+        all - counted(&levels[0])
+    }
+}
+
+/// How many levels aren't zero.
+fn count_levels(levels: &[i16; 64]) -> u16
+    ensures { result ≡ count_levels levels.now }
+{
+    let mut count = 0;
+    'levels: for level in levels {
+        count += counted(level);
+    }
+    count
+}
+
+fn counted(level: &i16) -> u16
+    ensures { result ≡ counted level.now }
+{
+    if *level != 0 { 1 } else { 0 }
 }
 
 /// Writes a run and a level by its code, or else by an escape (H.262, 7.2.2).
+#[inline(always)]
 fn write_pair<P: Put>(code: BlockCode, place: usize, p: Pair, out: &mut BitWriter, to: &mut P)
     requires run { p.run < 64 }
     requires level { IsCoded p.level }
     ensures { Writes P.stands to.old to.new out.old out.new (pair_bits (codes_at code place) p) }
 {
-    write_either(has_table_15(code), is_first(code, place), p, out, to);
-}
-
-fn write_either<P: Put>(table_15: bool, first: bool, p: Pair, out: &mut BitWriter, to: &mut P)
-    requires run { p.run < 64 }
-    requires level { IsCoded p.level }
-    ensures { Writes P.stands to.old to.new out.old out.new
-        (pair_bits (coef_codes table_15 first) p) }
-{
-    let coef = Coef::Pair(p.run, p.level);
-    if has_coef(coef, table_15, first) {
-        write_coef(coef, table_15, first, out, to);
-    } else {
-        write_coef(Coef::Escape, table_15, first, out, to);
-        out.put(p.run as u32, 6, to);
-        out.put(twos_12(&p.level), 12, to);
-    }
-}
-
-/// Writes the end of a block.
-fn write_end<P: Put>(code: BlockCode, place: usize, out: &mut BitWriter, to: &mut P)
-    requires { 0 < place }
-    ensures { Writes P.stands to.old to.new out.old out.new
-        (code_of (same_coef coef.End) (codes_at code place)) }
-{
-    write_coef(
-        Coef::End,
-        has_table_15(code),
-        is_first(code, place),
-        out,
-        to,
-    );
-}
-
-/// A level as a number of 12 bits in two's complement.
-fn twos_12(level: &i16) -> u32
-    requires { IsCoded level.now }
-    ensures value { result ≡ twos_12 level.now }
-    ensures fits { result < 2 ^ 12 }
-{
-    if *level < 0 {
-        4096 - u32::from(level.unsigned_abs())
-    } else {
-        u32::from(level.unsigned_abs())
-    }
+    let table_15 = has_table_15(code);
+    let first = is_first(code, place);
+    write_coefficient(p.run, &p.level, table_15, first, out, to);
 }

@@ -1,5 +1,0 @@
-use Rattle.mv_blocks.proofs.WriteLemmas.{IsPut}
-use Rattle.mv_blocks.proofs.write.write_levels.Given as goal
-
-abbrev pub invariant-places : goal.invariant-places
-invariant-places g l = IsPut g.P.Put.stands l.code l.start l.levels l.fn.to l.to l.fn.out l.out l.place l.k
