@@ -6,7 +6,7 @@ use Rattle.mv_terms.specs.declared.head.Head.{Head}
 use Rattle.mv_terms.specs.declared.macroblock.Decision.{Decision}
 use Rattle.mv_terms.specs.declared.macroblock.MacroLevels.{MacroLevels}
 use Rattle.mv_terms.specs.declared.macroblock.Vector.{Vector}
-use Rattle.mv_terms.specs.Ranges.{HasLegalFCodes, IsLevel}
+use Rattle.mv_terms.specs.Ranges.{HasLegalFCodes, IsLevel, IsDcLevel}
 use Rattle.mv_terms.specs.Decisions.{block}
 use Rattle.mv_bits.specs.Bits.{digits, worth}
 use Rattle.mv_bits.specs.ReadBack.{sent}
@@ -18,7 +18,6 @@ use Rattle.mv_codes.specs.Spelled.{code_of, has_code, same_number, same_type}
 use Rattle.mv_codes.specs.Patterns.{pattern_codes}
 use Rattle.mv_codes.proofs.SpelledLaws.{all_below, each_below}
 use Rattle.mv_codes.proofs.WrittenLaws.{types_written}
-use Rattle.mv_blocks.specs.Blocks.{IsDcLevel}
 use Rattle.mv_blocks.specs.Written.{IsWritable, has_level}
 use Rattle.mv_vectors.specs.Vectors.{Directed, HasReadableCodes}
 use Rattle.mv_vectors.specs.Written.{AreNear, direction_bits}

@@ -129,7 +129,8 @@ pub(crate) fn write_blocks<P: Put>(
 
 /// Writes `frame_motion_type` where it is sent.
 fn write_motion_type<P: Put>(is_sent: bool, field: bool, out: &mut BitWriter, to: &mut P)
-    ensures { Writes P.stands to.old to.new out.old out.new (sent is_sent (motion_type_bits field)) }
+    ensures { Writes P.stands to.old to.new out.old out.new
+        (sent is_sent (motion_type_bits field)) }
 {
     if is_sent {
         out.put(motion_type(field), 2, to);
