@@ -46,12 +46,15 @@ PutsSlice stands head covered slice old new =
 
 -- The macroblocks of a slice are written up to these, which are left: the bits so far, and those of what is left behind
 -- the settled ones so far, are the whole.
-pub record IsWrittenTo {P Kind : Type 0} (stands : P → Kind → List ℕ → Type 0) (head : Head) (start : Start)
-    (old new : P) (pending now : List Bool) (state : Given) (jumped : ℕ) (rest : List CodedMacroblock)
+pub record IsWrittenTo {P Kind : Type 0} (stands : P → Kind → List ℕ → Type 0) (head : Head)
+    (start : Start)
+    (old new : P) (pending now : List Bool) (state : Given) (jumped : ℕ)
+    (rest : List CodedMacroblock)
     (whole : List Bool) : Type 0 where
   pub past : List CodedMacroblock
   pub bits : List Bool
   pub written : Writes stands old new pending now bits
   pub stands_for : StandsFor state head start past
-  pub in_order : bits ++ macroblocks_bits head start past jumped (settled_from head start past rest) ≡ whole
+  pub in_order : bits ++ macroblocks_bits head start past jumped
+      (settled_from head start past rest) ≡ whole
   pub writable : CanAllBeWritten head start past (settled_from head start past rest)
