@@ -1,0 +1,14 @@
+pub mod FrontLaws
+pub mod VectorLaws
+pub mod PairLaws
+pub mod BlockLaws
+pub mod ReadLaws
+pub mod VectorReads
+pub mod BlockReads
+pub mod MacroblockLaws
+pub mod MacroblockReads
+pub mod SliceLaws
+pub mod SliceReads
+pub mod PictureLaws
+pub mod PictureReads
+pub mod WithinLaws
