@@ -19,7 +19,7 @@ use Rattle.mv_units.specs.declared.walk.Found.{Found}
 use Rattle.mv_units.specs.declared.walk.Next.TheVariants.{More, Ready, Refused}
 use Rattle.mv_units.specs.declared.next.Before.{Before}
 use Rattle.mv_units.specs.declared.next.Before.TheVariants as before
-use Rattle.mv_units.specs.Shape.{part_limit}
+use Rattle.mv_terms.specs.UnitLists.{part_limit}
 use Rattle.mv_units.specs.Table.{follows}
 use Rattle.mv_units.specs.Walk.{walk, at_last_element, at_stop, ended, with_element, zeros_alone, next_unit}
 use Rattle.mv_units.specs.Gaps.{longer, Spares}

@@ -13,7 +13,7 @@ use Rattle.mv_units.specs.declared.parts.PartLengths.{PartLengths}
 use Rattle.mv_units.specs.declared.walk.Found.{Found}
 use Rattle.mv_units.specs.declared.walk.Next.{Next}
 use Rattle.mv_units.specs.declared.walk.Next.TheVariants.{More, Ready, Refused}
-use Rattle.mv_units.specs.Shape.{part_limit}
+use Rattle.mv_terms.specs.UnitLists.{part_limit}
 use Rattle.mv_units.specs.Table.{follows}
 use Rattle.mv_units.specs.Walk.{walk, at_last_element, at_stop, ended, finish, sure_len, with_element, within, is_too_long}
 use Rattle.mv_units.specs.Gaps.{longer}

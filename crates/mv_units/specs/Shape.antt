@@ -4,13 +4,10 @@ use Rattle.std.specs.List.{list_all}
 use Rattle.mv_bits.specs.Elements.{cut, code}
 use Rattle.mv_bits.specs.StartCodes.{are_head, are_prefix, begins_with, is_slice, sequence_header}
 use Rattle.mv_bits.specs.Zeros.{zero_bytes, zeros_at_end}
-use Rattle.mv_terms.specs.UnitLists.{UnitLists}
+use Rattle.mv_terms.specs.UnitLists.{UnitLists, part_limit}
+use Rattle.mv_slices.specs.UnitSlices.{IsUnitSlices}
 use Rattle.mv_units.specs.declared.next.Before.{Before}
 use Rattle.mv_units.specs.declared.next.Before.TheVariants as before
-
--- the most bytes of a prefix, of a head and of slices
-abbrev pub part_limit : ℕ
-part_limit = 16777216
 
 -- What stands in front of the elements of a prefix: zero bytes in front of the first unit, nothing in front of a later one.
 abbrev pub IsFront : Before → List ℕ → Type 0
@@ -28,18 +25,6 @@ pub record IsUnitPrefix (begin : Before) (bytes : List ℕ) : Type 0 where
 pub record IsUnitHead (bytes : List ℕ) : Type 0 where
   pub front : (cut bytes).front ≡ []
   pub elements : are_head (cut bytes).elements ≡ true
-  pub short : length bytes ≤ part_limit
-
--- one slice or more, and nothing else
-abbrev pub are_slices : List (List ℕ) → Bool
-are_slices [] = false
-are_slices (element ∷ others) = is_slice (code element) && list_all (λ e. is_slice (code e)) others
-
--- Slices: the zero bytes behind the last of them are counted apart.
-pub record IsUnitSlices (bytes : List ℕ) : Type 0 where
-  pub front : (cut bytes).front ≡ []
-  pub elements : are_slices (cut bytes).elements ≡ true
-  pub ends : zeros_at_end bytes ≡ 0
   pub short : length bytes ≤ part_limit
 
 -- a unit that has this before it

@@ -1,7 +1,7 @@
 //! The cutter: a stream that comes in pieces, unit by unit.
 ghost use Rattle.std.specs.Prelude.{◌≡◌, ◌≢◌, ◌≤◌, ◌<◌, ◌+◌, ◌∷◌, ◌++◌, ℕ, List, [], true, false, length, take, drop, IfOk, ◌^◌, Some};
 ghost use Rattle.mv_terms.specs.UnitLists.{UnitLists, lent_unit};
-ghost use Rattle.mv_units.specs.Shape.{IsUnitSlices};
+ghost use Rattle.mv_slices.specs.UnitSlices.{IsUnitSlices};
 ghost use Rattle.mv_units.specs.Gaps.{longer_end, zeros_left_out};
 ghost use Rattle.mv_units.specs.Units.{nothing_fed, cut_at, cut_of, next_of, ready_unit, behind_ready, StandsFor, StaysDecided, Settles};
 

@@ -39,7 +39,8 @@ impl Kept {
         ensures some { 0 < result }
         ensures within { result ≤ length piece.now }
         ensures fed { widened self.new.behind_slices (widened self.new.behind_end self.new.stored)
-            ≡ (let old = widened self.old.behind_slices (widened self.old.behind_end self.old.stored) in
+            ≡ (let old = widened self.old.behind_slices
+            (widened self.old.behind_end self.old.stored) in
             record old { bytes = old.bytes ++ take result piece.now }) }
     {
         self.have_room();

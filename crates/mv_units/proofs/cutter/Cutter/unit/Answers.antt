@@ -1,7 +1,7 @@
 use Rattle.std.proofs.Common.{◌≡◌, ◌+◌, ℕ, List, Option, sym, ◌∙◌, ap, subst, arith}
 use Rattle.mv_terms.specs.UnitLists.{UnitLists, lent_unit}
 use Rattle.mv_units.specs.declared.walk.Next.{Next}
-use Rattle.mv_units.specs.Shape.{IsUnitSlices}
+use Rattle.mv_slices.specs.UnitSlices.{IsUnitSlices}
 use Rattle.mv_units.specs.Units.{next_of, cut_of, found_of, unit_of, ready_unit}
 use Rattle.mv_units.specs.Gaps.{longer_end, zeros_left_out}
 use Rattle.mv_units.proofs.ShapeLaws.{ready_has_slices}
