@@ -1,0 +1,3 @@
+mod JoinedLaws
+mod PartLaws
+mod ZeroLemmas
