@@ -13,3 +13,5 @@ pub mod HeaderExits
 pub mod FileLaws
 pub mod OnlyLaws
 pub mod HeaderLaws
+pub mod PartLemmas
+pub mod BehindLaws

@@ -92,7 +92,7 @@ abbrev end_by : Bool → Result (Option ℕ) FrameFault
 end_by none = cond none (Err NoFrames) (Ok None)
 
 -- the end of a file
-found_end : (len n room : ℕ) (s : List ℕ) → next_frame len n room s ≡ Ok None → (s ≡ []) × (n ≢ 0)
+pub found_end : (len n room : ℕ) (s : List ℕ) → next_frame len n room s ≡ Ok None → (s ≡ []) × (n ≢ 0)
 unfolding next_frame
 found_end len n room s h = by_front (front len (take room s)) (nat_lt room (length s)) refl refl h
   where

@@ -1,5 +1,5 @@
 -- A reader of a frame file: what it stands for, and what each call finds in what is left of the file.
-use Rattle.std.specs.Prelude.{◌≡◌, ℕ, ◌+◌, ◌≤◌, Bool, true, false, List, [], ◌∷◌, ◌++◌, length, Option, None, Result, Ok, Err}
+use Rattle.std.specs.Prelude.{◌≡◌, ℕ, ◌+◌, ◌≤◌, ◌<◌, Bool, true, false, List, [], ◌∷◌, ◌++◌, length, Option, None, Result, Ok, Err}
 use Rattle.std.specs.Io.KnownBytes.{prepend_known, Consumes}
 use Rattle.mv_terms.specs.declared.status.FrameFault.{FrameFault}
 use Rattle.mv_terms.specs.declared.frame_header.FrameHeader.{FrameHeader}
@@ -32,6 +32,12 @@ pub record StandsFor (r : Reading) (past : List ℕ) (frames : List (List ℕ)) 
   pub frames_are : AreFrames (frame_len r.header) frames behind
   pub count : r.count ≡ length frames
   pub room : r.room + length past ≡ file_limit
+
+-- Known bytes lost fewer than so many at the front.
+pub record TakesFewer (most : ℕ) (old new : Option (List ℕ)) : Type 0 where
+  pub taken : List ℕ
+  pub consumed : Consumes old new taken
+  pub few : length taken < most
 
 -- the start of a reader
 pub record Starts (old rest : Option (List ℕ)) (r : Reading) : Type 0 where

@@ -5,7 +5,7 @@ use Rattle.std.specs.Io.KnownBytes.{Consumes}
 use Rattle.std.specs.List.{list_any}
 use Rattle.y4m_frames.specs.declared.halt.Halt.{Halt}
 use Rattle.y4m_frames.specs.declared.halt.Halt.TheVariants.{Fault, Read, NoMemory}
-use Rattle.y4m_frames.specs.Lines.{is_line_feed}
+use Rattle.y4m_frames.specs.Lines.{is_line_feed, line_within}
 use Rattle.y4m_frames.specs.Frames.{IsFrame, is_frame_line, are_samples, line_limit, judged, samples_front, next_frame}
 use Rattle.y4m_frames.specs.Header.{Token, absent, once, often}
 use Rattle.y4m_frames.specs.declared.header.Found.{Found}
@@ -77,3 +77,15 @@ FrameTells len n room s (Ok None) = next_frame len n room s ≡ Ok None
 FrameTells len n room s (Err (Fault fault)) = next_frame len n room s ≡ Err fault
 FrameTells len n room s (Err Read) = Unit {0}
 FrameTells len n room s (Err NoMemory) = ⊥
+
+-- the shelf failed within a line: what was taken has no line feed where one may stand
+pub record StopsInLine (old new : Option (List ℕ)) : Type 0 where
+  pub taken : List ℕ
+  pub consumed : Consumes old new taken
+  pub no_line : line_within line_limit taken ≡ None
+
+-- the shelf failed within a frame: what was taken has no whole frame in front
+pub record StopsShort (len n room : ℕ) (old new : Option (List ℕ)) : Type 0 where
+  pub taken : List ℕ
+  pub consumed : Consumes old new taken
+  pub part : (line : ℕ) → next_frame len n room taken ≡ Ok (Some line) → ⊥

@@ -1,7 +1,8 @@
 //! What was read ahead of a shelf's input.
-ghost use Rattle.std.specs.Prelude.{◌≡◌, ◌+◌, ◌-◌, ◌<◌, ◌≤◌, ℕ, List, [], ◌++◌, length, take, drop, min, vec_len, slice_range, IfOk, IfNone, IfSome, ◌⊎◌, OnOk, OnErr};
+ghost use Rattle.std.specs.Prelude.{◌≡◌, ◌+◌, ◌-◌, ◌<◌, ◌≤◌, ℕ, List, [], ◌++◌, length, take, drop, min, vec_len, slice_range, IfOk, IfNone, IfSome, None, ◌⊎◌, OnOk, OnErr};
 ghost use Rattle.std.specs.Io.KnownBytes.{Consumes, IsAtEnd, Keeps, prepend_known};
 ghost use Rattle.y4m_frames.specs.Lines.{line_within};
+ghost use Rattle.y4m_frames.specs.Reading.{TakesFewer};
 ghost use Rattle.mv_ends.specs.Causes.{RoseForSelected};
 ghost use Rattle.mv_ends.specs.Shelves.{KeepsShelf};
 
@@ -109,6 +110,7 @@ impl Ahead {
         ensures found { IfOk result (λ found. line_within most self.new ≡ found) }
         ensures within { IfOk result (λ found. IfSome found
             (λ n. (n < most) × (n < length self.new))) }
+        ensures none { OnErr result (line_within most self.new ≡ None) }
         ensures all { IfOk result (λ found. IfNone found ((most ≤ length self.new) ⊎ IsAtEnd (S.rest
             shelf.new))) }
         ensures most { length self.new ≤ 65536 }
@@ -137,6 +139,8 @@ impl Ahead {
             (prepend_known self.new (S.rest shelf.new)) (take n to.new)) }
         ensures end { IfOk result (λ n. n < length to.old → IsAtEnd (prepend_known self.new (S.rest
             shelf.new))) }
+        ensures part { OnErr result (TakesFewer (length to.old)
+            (prepend_known self.old (S.rest shelf.old)) (S.rest shelf.new)) }
         ensures less { length self.new ≤ length self.old }
         ensures failed { OnErr result (RoseForSelected (S.selected shelf.old)
             (S.read_faults shelf.old) (S.read_faults shelf.new)) }
@@ -199,6 +203,8 @@ pub fn read_all<S: Shelf>(shelf: &mut S, to: &mut [u8], from: usize) -> Result<u
     ensures read { IfOk result (λ n. Consumes (S.rest shelf.old) (S.rest shelf.new)
         (slice_range to.new from n)) }
     ensures end { IfOk result (λ n. n < length to.old → IsAtEnd (S.rest shelf.new)) }
+    ensures part { OnErr result (TakesFewer (length to.old - from) (S.rest shelf.old)
+        (S.rest shelf.new)) }
     ensures failed { OnErr result (RoseForSelected (S.selected shelf.old) (S.read_faults shelf.old)
         (S.read_faults shelf.new)) }
     ensures chosen { S.selected shelf.new ≡ S.selected shelf.old }

@@ -5,7 +5,8 @@ ghost use Rattle.std.specs.Io.KnownBytes.{Consumes, prepend_known};
 ghost use Rattle.mv_ends.specs.Causes.{RoseForSelected};
 ghost use Rattle.mv_ends.specs.Shelves.{KeepsShelf};
 ghost use Rattle.y4m_frames.specs.Frames.{is_frame_line, are_samples};
-ghost use Rattle.y4m_frames.specs.Steps.{TakesLine, LineTells, TakesSamples, SamplesTell, TakesFrame, FrameTells};
+ghost use Rattle.y4m_frames.specs.Reading.{TakesFewer};
+ghost use Rattle.y4m_frames.specs.Steps.{TakesLine, LineTells, StopsInLine, TakesSamples, SamplesTell, TakesFrame, FrameTells, StopsShort};
 
 use crate::ahead::Ahead;
 use crate::halt::Halt;
@@ -31,6 +32,8 @@ pub(crate) fn take_frame<S: Shelf>(
         (prepend_known ahead.new (S.rest shelf.new)) [])) }
     ensures told { ForSome (prepend_known ahead.old (S.rest shelf.old)) (λ s. FrameTells (length
         samples.old) count room s result) }
+    ensures part { IsErrOf result Halt.Read → StopsShort (length samples.old) count room
+        (prepend_known ahead.old (S.rest shelf.old)) (S.rest shelf.new) }
     ensures most { length ahead.new ≤ 65536 }
     ensures less { IfOk result (λ found. IfSome found (λ _. length ahead.new < 65536)) }
     ensures memory { result ≢ Err Halt.NoMemory }
@@ -83,6 +86,8 @@ fn take_line<S: Shelf>(
     ensures line { IfOk result (λ found. IfSome found
         (λ line. TakesLine line room (prepend_known ahead.old (S.rest shelf.old))
         (prepend_known ahead.new (S.rest shelf.new)))) }
+    ensures part { IsErrOf result Halt.Read → StopsInLine
+        (prepend_known ahead.old (S.rest shelf.old)) (S.rest shelf.new) }
     ensures ends { IfOk result (λ found. IfNone found
         (Consumes (prepend_known ahead.old (S.rest shelf.old))
         (prepend_known ahead.new (S.rest shelf.new)) [])) }
@@ -142,6 +147,8 @@ fn take_samples<S: Shelf>(
 ) -> Result<(), Halt>
     ensures samples { OnOk result (TakesSamples left (prepend_known ahead.old (S.rest shelf.old))
         (prepend_known ahead.new (S.rest shelf.new)) samples.new) }
+    ensures part { IsErrOf result Halt.Read → TakesFewer (min (length samples.old) (left + 1))
+        (prepend_known ahead.old (S.rest shelf.old)) (S.rest shelf.new) }
     ensures told { ForSome (prepend_known ahead.old (S.rest shelf.old)) (λ s. SamplesTell (length
         samples.old) count left s result) }
     ensures less { length ahead.new ≤ length ahead.old }

@@ -8,6 +8,7 @@ ghost use Rattle.y4m_frames.specs.declared.halt.Halt.{Halt};
 ghost use Rattle.y4m_frames.specs.declared.halt.Halt.TheVariants as halts;
 ghost use Rattle.y4m_frames.specs.Frames.{frame_len};
 ghost use Rattle.y4m_frames.specs.Reading.{Reading, left_of, StandsFor, Starts, HasNoHeader, Hands, NextTells, StandsForItsFrames, FrameFilesAreRead, OnlyFrameFilesAreRead, WrittenHeadersAreRead};
+ghost use Rattle.y4m_frames.specs.Behind.{IsBehind, AnswersBehind, HeaderFaultsAreFaults, BeginsItsFrames, FramesEndWithin, ReadsNear};
 
 use crate::ahead::Ahead;
 use crate::frame::take_frame;
@@ -52,6 +53,10 @@ impl FrameReader {
     /// A reader of the selected input of a shelf, whose header line it reads.
     pub fn start<S: Shelf>(alloc: Global, shelf: &mut S) -> Result<FrameReader, Halt>
         ensures starts { IfOk result (λ r. Starts (S.rest shelf.old) (S.rest shelf.new) r) }
+
+        // Where the shelf tells its bytes, the reader stands at the first frame of these.
+        ensures behind { IfOk result (λ r. ForSome (S.rest shelf.old)
+            (λ file. IsBehind r (S.rest shelf.new) file [])) }
 
         // Fewer than 65,536 bytes are read ahead of what stands behind the header line.
         ensures less { IfOk result (λ r. length r.ahead < 65536) }
@@ -108,6 +113,15 @@ impl FrameReader {
         ensures ends { IfOk result (λ some. some ≡ false → Consumes
             (left_of self.old (S.rest shelf.old)) (left_of self.new (S.rest shelf.new)) []) }
 
+        // Behind the first frames of a file it answers the next one, the end, or the first fault.
+        ensures behind { (file : List ℕ) (frames : List (List ℕ))
+            → IsBehind self.old (S.rest shelf.old) file frames
+            → AnswersBehind self.old self.new (S.rest shelf.new) file frames frame.new result }
+
+        // Fewer bytes may belong to the file behind each frame.
+        ensures room { self.new.room ≤ self.old.room }
+        ensures falls { IfOk result (λ some. some ≡ true → self.new.room < self.old.room) }
+
         // Where the shelf tells its bytes: at the end, and only there, it answers false, and a
         // fault is the first one.
         ensures tells { self.old.failed ≡ None → ForSome (left_of self.old (S.rest shelf.old)) (λ s.
@@ -151,6 +165,16 @@ impl FrameReader {
 /// what is left.
 pub fn stands_law()
     ensures { StandsForItsFrames }
+{}
+
+/// A reader behind frames of a file: they are its first ones, they are those that end within the
+/// bytes up to there, and fewer than 65,536 bytes were taken beyond. Where no reader starts, the
+/// fault of the header line is that of the file.
+pub fn behind_law()
+    ensures header { HeaderFaultsAreFaults }
+    ensures begins { BeginsItsFrames }
+    ensures within { FramesEndWithin }
+    ensures near { ReadsNear }
 {}
 
 /// A frame file is read as what it holds, and only a frame file is read without a fault.

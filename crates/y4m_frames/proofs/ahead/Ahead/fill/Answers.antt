@@ -1,6 +1,8 @@
-use Rattle.std.proofs.Common.{◌≡◌, ◌≤◌, ◌∙◌, sym, subst, arith, List, ℕ, take, drop, length, slice_range, Option, Result, Ok, Err, IfOk, OnOk}
+use Rattle.std.proofs.Common.{◌≡◌, ◌≤◌, ◌∙◌, sym, subst, arith, List, ℕ, take, drop, length, slice_range, Option, Result, Ok, Err, ◌-◌, IfOk, OnOk, OnErr}
 use Rattle.std.specs.Io.KnownBytes.{Consumes, prepend_known}
+use Rattle.y4m_frames.specs.Reading.{TakesFewer}
 use Rattle.y4m_frames.proofs.AheadLemmas.{front_and_more}
+use Rattle.y4m_frames.proofs.PartLemmas.{fewer_filled}
 use Rattle.y4m_frames.proofs.ahead.Ahead.fill.Goals as goal
 
 -- all that was ahead, and what was read behind it
@@ -17,3 +19,10 @@ returns-clause-read g c =
     let all : length c.args.self.now ≤ c.give-given.result = omega (arith, given.count, c.if-given-to.false) in
     all_and_more c.args.self.now c.give-given.new.self c.read_all.new.to c.give-given.new.to (g.S.Shelf.rest c.args.shelf.now) (g.S.Shelf.rest c.read_all.new.shelf) c.give-given.result c.read_all.result
     all given.left given.given e.front e.within e.read
+
+pub returns-clause-part : goal.returns-clause-part
+returns-clause-part g c =
+    let given = c.give-given.ensures in
+    fewer_filled c.args.self.now (length c.args.to.now) c.give-given.result (g.S.Shelf.rest c.args.shelf.now) (g.S.Shelf.rest c.read_all.new.shelf) c.read_all.result
+    (omega (arith, given.count, c.if-given-to.false, c.give-given.auto.to)) (omega (arith, given.count))
+    (subst (λ n. OnErr c.read_all.result (TakesFewer (n - c.give-given.result) (g.S.Shelf.rest c.args.shelf.now) (g.S.Shelf.rest c.read_all.new.shelf))) c.give-given.auto.to c.read_all.ensures.part)

@@ -1,6 +1,11 @@
-use Rattle.std.proofs.Common.{◌+◌, ◌∙◌, ap, sym, take, List, ℕ}
+use Rattle.std.proofs.Common.{◌+◌, ◌-◌, ◌<◌, ◌∙◌, ap, sym, take, length, List, ℕ, None, arith}
 use Rattle.std.proofs.lemmas.Result.{err_from_is_err_and}
 use Rattle.y4m_frames.specs.Header.{header_of}
+use Rattle.y4m_frames.specs.Frames.{file_limit}
+use Rattle.y4m_frames.specs.Reading.{Reading, Starts}
+use Rattle.y4m_frames.specs.Behind.{read_limit}
+use Rattle.std.proofs.lemmas.List.{length-drop}
+use Rattle.y4m_frames.proofs.BehindLaws.{starts_behind}
 use Rattle.y4m_frames.proofs.HeaderExits.{from_rest, no_header, bad_header, starts}
 use Rattle.y4m_frames.proofs.reader.FrameReader.start.Goals as goal
 
@@ -29,3 +34,13 @@ returns-clause-starts g c =
     (ap (λ (x : List ℕ). header_of (take c.in-Some.text x)) (sym c.bytes-held.ensures.value) ∙ sym c.in_ok-header.ensures)
     (c.in_ok-line.ensures.items ∙ ap (take (c.in-Some.text + 1)) c.bytes-held.ensures.value)
     c.skip.ensures
+
+pub returns-clause-behind : goal.returns-clause-behind
+returns-clause-behind g c = λ file told.
+    let r : Reading = record { header = c.in_ok-header.header; line = c.in_ok-line.line.items; count = 0; room = file_limit - (c.in-Some.text + 1); ahead = c.skip.new.self; failed = None } in
+    let old = g.S.Shelf.rest c.args.shelf.now in
+    let rest = g.S.Shelf.rest c.line.new.shelf in
+    let start : Starts old rest r = returns-clause-starts g c in
+    let within : (c.in-Some.text < 1024) × (c.in-Some.text < length c.line.new.self) = rw c.in-Some.is at c.in_ok-text.ensures.within in
+    let few : length r.ahead < read_limit = omega (arith, ap length c.skip.ensures, length-drop (c.in-Some.text + 1) c.line.new.self, c.in_ok-text.ensures.most, within.1) in
+    starts_behind r old rest file start few told
