@@ -50,8 +50,10 @@ pub record IsSlotOf (d : Decision) (bytes : List ℕ) : Type 0 where
 
 -- a decision as a program holds it: two selects and two vectors in each direction, with components of 16 bits
 pub record IsHeld (d : Decision) : Type 0 where
-  pub selects : d.selects ≡ (select_of d 0 0 ∷ select_of d 0 1 ∷ []) ∷ (select_of d 1 0 ∷ select_of d 1 1 ∷ []) ∷ []
-  pub vectors : d.vectors ≡ (vector_of d 0 0 ∷ vector_of d 0 1 ∷ []) ∷ (vector_of d 1 0 ∷ vector_of d 1 1 ∷ []) ∷ []
+  pub selects : d.selects
+      ≡ (select_of d 0 0 ∷ select_of d 0 1 ∷ []) ∷ (select_of d 1 0 ∷ select_of d 1 1 ∷ []) ∷ []
+  pub vectors : d.vectors
+      ≡ (vector_of d 0 0 ∷ vector_of d 0 1 ∷ []) ∷ (vector_of d 1 0 ∷ vector_of d 1 1 ∷ []) ∷ []
   pub x_fits : (s r : ℕ) → FitsSigned w16 (vector_of d s r).x
   pub y_fits : (s r : ℕ) → FitsSigned w16 (vector_of d s r).y
 

@@ -53,8 +53,10 @@ fn component(high: u8, low: u8) -> i16
 /// The vector in the four bytes from a place on.
 fn vector_at(bytes: &[u8; 20], at: usize) -> Vector
     requires { at + 4 ≤ 20 }
-    ensures x { result.x ≡ cast_signed w16 (256 * slice_index bytes.now at + slice_index bytes.now (at + 1)) }
-    ensures y { result.y ≡ cast_signed w16 (256 * slice_index bytes.now (at + 2) + slice_index bytes.now (at + 3)) }
+    ensures x { result.x
+        ≡ cast_signed w16 (256 * slice_index bytes.now at + slice_index bytes.now (at + 1)) }
+    ensures y { result.y
+        ≡ cast_signed w16 (256 * slice_index bytes.now (at + 2) + slice_index bytes.now (at + 3)) }
 {
     Vector {
         x: component(bytes[at], bytes[at + 1]),
