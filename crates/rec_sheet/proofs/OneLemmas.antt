@@ -2,10 +2,11 @@
 use Rattle.std.proofs.Common.{◌≡◌, ℕ, ◌+◌, ◌/◌, ◌%◌, ◌∙◌, List, length, get_or, arith, ap, refl, sym}
 use Rattle.mv_terms.specs.declared.head.PicType.{PicType}
 use Rattle.mv_terms.specs.declared.head.PicType.TheVariants as pic
-use Rattle.rec_sheet.specs.Sheets.{SheetLists, IsSheet, OneSheet, bytes_at, four_bytes, type_code}
+use Rattle.mv_terms.specs.PicTypes.{picture_coding_type}
+use Rattle.rec_sheet.specs.Sheets.{SheetLists, IsSheet, OneSheet, bytes_at, four_bytes}
 use Rattle.rec_sheet.proofs.ReadLemmas.{byte_of, typed, sized}
 
-same_type : (p q : PicType) → type_code p ≡ type_code q → p ≡ q
+same_type : (p q : PicType) → picture_coding_type p ≡ picture_coding_type q → p ≡ q
 same_type pic.I pic.I e = refl
 same_type pic.P pic.P e = refl
 same_type pic.B pic.B e = refl

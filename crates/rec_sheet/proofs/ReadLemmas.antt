@@ -3,7 +3,8 @@ use Rattle.std.proofs.Common.{◌≡◌, ℕ, zero, ◌+◌, ◌-◌, ◌*◌, �
 use Rattle.std.proofs.lemmas.Grind.{same_number_lists}
 use Rattle.std.proofs.lemmas.List.{get_or-take, get_or-drop, length-take-le}
 use Rattle.std.proofs.lemmas.List.FromFn.{fill_by_all}
-use Rattle.rec_sheet.specs.Sheets.{SheetLists, IsSheet, IsNamed, end_of, bytes_at, four_bytes, type_code, lengths_of}
+use Rattle.mv_terms.specs.PicTypes.{picture_coding_type}
+use Rattle.rec_sheet.specs.Sheets.{SheetLists, IsSheet, IsNamed, end_of, bytes_at, four_bytes, lengths_of}
 
 -- byte i of the bytes from a place on
 pub byte_of : (bytes : List ℕ) (at n i : ℕ) → i < n → get_or bytes (at + i) 0 ≡ get_or (bytes_at bytes at n) i 0
@@ -27,7 +28,7 @@ named s bytes is = record {
   behind = byte_of bytes 4 4 3 (omega arith) ∙ ap (λ xs. get_or xs 3 0) is.kind;
 }
 
-pub typed : (s : SheetLists) (bytes : List ℕ) → IsSheet s bytes → type_code s.pic ≡ get_or bytes 5 0
+pub typed : (s : SheetLists) (bytes : List ℕ) → IsSheet s bytes → picture_coding_type s.pic ≡ get_or bytes 5 0
 typed s bytes is = sym (byte_of bytes 4 4 1 (omega arith) ∙ ap (λ xs. get_or xs 1 0) is.kind)
 
 -- the three lengths as they stand
@@ -71,7 +72,7 @@ six_same : (a b c d e f a' b' c' d' e' f' : ℕ) → a ≡ a' → b ≡ b' → c
 six_same a b c d e f a' b' c' d' e' f' p q r s t u = cc
 
 -- what is read is a sheet
-pub is_sheet : (s : SheetLists) (bytes free : List ℕ) (c p h : ℕ) → ((k : ℕ) → get_or bytes k 0 < 256) → IsNamed bytes → type_code s.pic ≡ get_or bytes 5 0 → s.flags ≡ get_or bytes 6 0
+pub is_sheet : (s : SheetLists) (bytes free : List ℕ) (c p h : ℕ) → ((k : ℕ) → get_or bytes k 0 < 256) → IsNamed bytes → picture_coding_type s.pic ≡ get_or bytes 5 0 → s.flags ≡ get_or bytes 6 0
     → s.forward ≡ bytes_at bytes 8 32 → s.backward ≡ bytes_at bytes 40 32 → s.n1 < 2 ^ 32 → s.n2 < 2 ^ 32 → bytes_at bytes 72 4 ≡ four_bytes s.n1 → bytes_at bytes 76 4 ≡ four_bytes s.n2
     → HasLengths bytes c p h → 86 + c + p + h + 32 ≤ length bytes
     → s.context ≡ bytes_at bytes 86 c → length s.context ≡ c → s.prefix ≡ bytes_at bytes (86 + c) p → length s.prefix ≡ p → s.head ≡ bytes_at bytes (86 + c + p) h → length s.head ≡ h
@@ -92,7 +93,7 @@ is_sheet s bytes free c p h small n kind flags forward backward f1 f2 n1 n2 l ro
       };
       room = omega arith;
       name = four_from bytes 0 (omega arith) ∙ four_same _ _ _ _ 77 82 69 67 n.m n.r n.e n.c;
-      kind = four_from bytes 4 (omega arith) ∙ four_same _ _ _ _ 1 (type_code s.pic) s.flags 0 n.version (sym kind) (sym flags) n.behind;
+      kind = four_from bytes 4 (omega arith) ∙ four_same _ _ _ _ 1 (picture_coding_type s.pic) s.flags 0 n.version (sym kind) (sym flags) n.behind;
       forward = sym forward;
       backward = sym backward;
       n1 = n1;

@@ -1,7 +1,7 @@
 -- The sheet of a picture: the record of its coding, in the shares of its macroblocks (docs/FRAME-FILES.md).
 use Rattle.std.specs.Prelude.{◌≡◌, ℕ, ◌+◌, ◌-◌, ◌/◌, ◌%◌, ◌^◌, ◌<◌, ◌≤◌, List, slice_index, [], ◌∷◌, ◌++◌, length, take, drop, replicate, codes}
 use Rattle.mv_terms.specs.declared.head.PicType.{PicType}
-use Rattle.mv_terms.specs.declared.head.PicType.TheVariants as pic
+use Rattle.mv_terms.specs.PicTypes.{picture_coding_type}
 use Rattle.rec_sheet.specs.declared.sheet.Sheet.{Sheet}
 
 -- what a sheet says: the type of the picture, its flags, the seals of the frames that it refers to, the zero bytes
@@ -31,12 +31,6 @@ lent_sheet s = record {
   head = s.head.now;
 }
 
--- picture_coding_type (H.262, table 6-12)
-abbrev pub type_code : PicType → ℕ
-type_code pic.I = 1
-type_code pic.P = 2
-type_code pic.B = 3
-
 -- 16 and 32 bits, the high byte first
 abbrev pub two_bytes : ℕ → List ℕ
 two_bytes n = n / 256 ∷ n % 256 ∷ []
@@ -46,11 +40,12 @@ four_bytes n = n / 16777216 ∷ n / 65536 % 256 ∷ n / 256 % 256 ∷ n % 256 �
 
 -- bytes 4 to 7: the version, the type, the flags and a zero
 abbrev pub kind_of : SheetLists → List ℕ
-kind_of s = 1 ∷ type_code s.pic ∷ s.flags ∷ 0 ∷ []
+kind_of s = 1 ∷ picture_coding_type s.pic ∷ s.flags ∷ 0 ∷ []
 
 -- bytes 80 to 85: the lengths of the three parts
 abbrev pub lengths_of : SheetLists → List ℕ
-lengths_of s = two_bytes (length s.context) ++ (two_bytes (length s.prefix) ++ two_bytes (length s.head))
+lengths_of s =
+    two_bytes (length s.context) ++ (two_bytes (length s.prefix) ++ two_bytes (length s.head))
 
 -- where the parts end
 abbrev pub end_of : SheetLists → ℕ

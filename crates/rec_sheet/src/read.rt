@@ -1,7 +1,8 @@
 //! What the bytes of a sheet say.
 ghost use Rattle.std.specs.Prelude.{◌≡◌, ◌+◌, ◌*◌, ◌<◌, ◌≤◌, length, slice_index, replicate, MatchOption, IsTrue, ◌↔◌};
 ghost use Rattle.mv_terms.specs.declared.head.PicType.{PicType as PictureType};
-ghost use Rattle.rec_sheet.specs.Sheets.{SheetLists, IsSheet, IsNamed, lent_sheet, bytes_at, four_bytes, type_code};
+ghost use Rattle.mv_terms.specs.PicTypes.{picture_coding_type};
+ghost use Rattle.rec_sheet.specs.Sheets.{SheetLists, IsSheet, IsNamed, lent_sheet, bytes_at, four_bytes};
 
 use crate::Sheet;
 use mv_terms::PicType;
@@ -52,7 +53,8 @@ fn is_named(bytes: &[u8]) -> bool
 
 /// The type of a picture by its code.
 fn type_of(code: u8) -> Option<PicType>
-    ensures { MatchOption result ((pic : PictureType) → type_code pic ≡ code → ⊥) (λ pic. type_code pic ≡ code) }
+    ensures { MatchOption result ((pic : PictureType) → picture_coding_type pic ≡ code → ⊥)
+        (λ pic. picture_coding_type pic ≡ code) }
 {
     match code {
         1 => Some(PicType::I),

@@ -1,6 +1,7 @@
 //! A sheet as bytes.
 ghost use Rattle.std.specs.Prelude.{◌≡◌, ◌+◌, ◌-◌, ◌<◌, ◌≤◌, ◌++◌, length, take, replicate};
-ghost use Rattle.rec_sheet.specs.Sheets.{sheet_of, lent_sheet, two_bytes, four_bytes, type_code};
+ghost use Rattle.mv_terms.specs.PicTypes.{picture_coding_type};
+ghost use Rattle.rec_sheet.specs.Sheets.{sheet_of, lent_sheet, two_bytes, four_bytes};
 
 use crate::Sheet;
 use mv_terms::PicType;
@@ -10,12 +11,13 @@ pub fn write_sheet(sheet: &Sheet<'_>, to: &mut [u8])
     requires context { length sheet.now.context.now < 65536 }
     requires prefix { length sheet.now.prefix.now < 65536 }
     requires head { length sheet.now.head.now < 65536 }
-    requires fits { 118 + length sheet.now.context.now + length sheet.now.prefix.now + length sheet.now.head.now
+    requires fits { 118 + length sheet.now.context.now + length sheet.now.prefix.now
+        + length sheet.now.head.now
         ≤ length to.old }
     ensures { to.new ≡ sheet_of (lent_sheet sheet.now) (length to.old) (replicate 32 0) }
 {
     let name = [b'M', b'R', b'E', b'C'];
-    let kind = [1, type_code(sheet.pic), sheet.flags, 0];
+    let kind = [1, picture_coding_type(sheet.pic), sheet.flags, 0];
     let n1 = four_bytes(sheet.n1);
     let n2 = four_bytes(sheet.n2);
     let context = two_bytes(sheet.context.len());
@@ -36,8 +38,8 @@ pub fn write_sheet(sheet: &Sheet<'_>, to: &mut [u8])
     clear(to, end);
 }
 
-fn type_code(pic: PicType) -> u8
-    ensures { result ≡ type_code pic }
+fn picture_coding_type(pic: PicType) -> u8
+    ensures { result ≡ picture_coding_type pic }
 {
     match pic {
         PicType::I => 1,

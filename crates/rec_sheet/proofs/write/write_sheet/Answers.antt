@@ -20,4 +20,4 @@ returns c =
     let b12 = with_piece _ _ _ _ c.put-end-11.result c.put-end-12.result c.put-end-11.result (omega arith) c.put-end-12.ensures.bytes c.put-end-12.ensures.end b11 in
     let free : ℕ = length c.put-end-12.new.to - 32 - (86 + length s.context.now + length s.prefix.now + length s.head.now) in
     let all = with_rest _ _ _ c.put-end-12.result c.put-end-12.result (length c.put-end-12.new.to) free refl c.clear.ensures (omega arith) b12 in
-    is_written _ (length c.args.to.now) free _ _ _ _ _ _ _ (ap (λ t. 1 ∷ t ∷ s.flags ∷ 0 ∷ []) c.type_code.ensures) c.four_bytes-n1.ensures c.four_bytes-n2.ensures c.two_bytes-context.ensures c.two_bytes-prefix.ensures c.two_bytes-head.ensures (omega arith) all
+    is_written _ (length c.args.to.now) free _ _ _ _ _ _ _ (ap (λ t. 1 ∷ t ∷ s.flags ∷ 0 ∷ []) c.picture_coding_type.ensures) c.four_bytes-n1.ensures c.four_bytes-n2.ensures c.two_bytes-context.ensures c.two_bytes-prefix.ensures c.two_bytes-head.ensures (omega arith) all
