@@ -7,7 +7,7 @@ use Rattle.plan_window.specs.Numbers.{without_context, AreNumbered, AgreesWithLa
 use Rattle.plan_window.proofs.ListLemmas.{get-first}
 use Rattle.plan_window.proofs.StepLemmas.{get_below}
 
-some_is : {X : Type 0} (x y : X) → Some x ≡ Some y → x ≡ y
+pub some_is : {X : Type 0} (x y : X) → Some x ≡ Some y → x ≡ y
 some_is x y e = cc
 
 -- the item that is added

@@ -6,6 +6,7 @@ use Rattle.plan_window.specs.declared.summary.Step.{Step}
 use Rattle.plan_window.specs.Plan.{is_plan_anchor, step_at, group_before, coding_order}
 use Rattle.plan_window.specs.State.{WindowState, IsHeld, steps_left, left_of}
 use Rattle.plan_window.specs.Stands.{Reaches, StandsFor}
+use Rattle.plan_window.specs.Fits.{frames_of}
 use Rattle.plan_window.specs.PlanLaws.{Among, HasStep, IsFirstOpen}
 use Rattle.plan_window.proofs.OrderLemmas.{clear_order}
 
@@ -27,10 +28,7 @@ among_cases (x ∷ xs) ys k (inr h) = go (among_cases xs ys k h)
     go (inl a) = inl (inr a)
     go (inr b) = inr b
 
-abbrev frames_of : List Step → List ℕ
-frames_of given = map (λ (s : Step). s.frame) given
-
-frames_at : (n : ℕ) (frames : List Summary) (xs : List ℕ) → frames_of (map (step_at n frames) xs) ≡ xs
+pub frames_at : (n : ℕ) (frames : List Summary) (xs : List ℕ) → frames_of (map (step_at n frames) xs) ≡ xs
 frames_at n frames [] = refl
 frames_at n frames (x ∷ xs) = ap (λ l. x ∷ l) (frames_at n frames xs)
 
@@ -77,7 +75,7 @@ covered anchor (suc m) k lt = go (anchor m) (cases_lt k m) (covered anchor m k)
         waits (inr h) = inr (inr h)
 
 -- and so do their numbers
-counted : (anchor : ℕ → Bool) (m : ℕ) → length (coding_order anchor m) + length (group_before anchor m) ≡ m
+pub counted : (anchor : ℕ → Bool) (m : ℕ) → length (coding_order anchor m) + length (group_before anchor m) ≡ m
 counted anchor zero = omega arith
 counted anchor (suc m) = go (anchor m) (counted anchor m)
   where

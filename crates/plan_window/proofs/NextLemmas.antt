@@ -41,7 +41,7 @@ next_more anchor i m f n = record { clear = λ j a b. by j b (cases_lt i j) a; i
     by j b (inr h) a = let e : j ≡ i = omega arith in rw e f
 
 -- frames without an anchor record are Bs, where the first record behind them has no low delay
-run : (w : ℕ) (frames : List Summary) (i : ℕ) (ys : List Summary) (r : Summary) (zs : List Summary) → drop i frames ≡ ys ++ r ∷ zs
+pub run : (w : ℕ) (frames : List Summary) (i : ℕ) (ys : List Summary) (r : Summary) (zs : List Summary) → drop i frames ≡ ys ++ r ∷ zs
     → AllPlain ys → is_anchor_record r ≡ true → r.low_delay ≡ false → length ys ≤ w → (m : ℕ) → m ≡ i + length ys → NextAt (is_plan_anchor w frames) i m
 run w frames i [] r zs h p t low le m e =
     next_here (is_plan_anchor w frames) i m (omega arith) (anchor_at w frames i r zs h ∙ ap (λ b. b || option_map_or (λ (q : Summary). q.low_delay) (find is_anchor_record (take w zs)) true) t)

@@ -6,3 +6,4 @@ pub mod Stands
 pub mod Fields
 pub mod PlanLaws
 pub mod Numbers
+pub mod Fits

@@ -1,7 +1,10 @@
 -- Numbers in place of contexts.
 use Rattle.std.specs.Prelude.{◌≡◌, ℕ, ◌+◌, ◌<◌, ◌≤◌, List, [], ◌∷◌, ◌++◌, Some, map, slice_get, length, bytes_eq}
 use Rattle.plan_window.specs.declared.summary.Summary.{Summary}
+use Rattle.plan_window.specs.declared.summary.Step.{Step}
 use Rattle.plan_window.specs.Plan.{ahead, plan}
+use Rattle.plan_window.specs.State.{WindowState}
+use Rattle.plan_window.specs.Stands.{MayFollow, StandsFor}
 
 -- all but the context
 abbrev pub without_context : Summary → Summary
@@ -45,3 +48,12 @@ NumbersAreAdded =
     (frames numbered : List Summary) (s t : Summary) → AreNumbered ahead frames numbered
     → AgreesWithLast ahead frames numbered s t → without_context s ≡ without_context t
     → AreNumbered ahead (frames ++ s ∷ []) (numbered ++ t ∷ [])
+
+-- The steps that a window of numbered summaries gave are the first ones of the plan over the contexts, whatever frames
+-- still come.
+abbrev pub NumbersBegin : Type 0
+NumbersBegin =
+    (window : WindowState) (frames numbered : List Summary) (given : List Step)
+    → StandsFor ahead window numbered given → AreNumbered ahead frames numbered
+    → (more : List Summary) → MayFollow window.closed more
+    → (later : List Step) × (plan ahead (frames ++ more) ≡ later ++ given)

@@ -84,6 +84,7 @@ impl Window {
         ensures stands { (pushed : List Summary) (given : List Step)
             → StandsFor ahead self.old pushed given → StandsFor ahead self.new pushed given }
         ensures held { self.new.held ≡ self.old.held }
+        ensures count { count_pushed self.new ≡ count_pushed self.old }
         ensures closed { self.new.closed ≡ true }
     {
         self.closed = true;
@@ -91,10 +92,11 @@ impl Window {
 
     /// The next step of the plan: None where fewer than 17 summaries are held and the window isn't closed, or where
     /// none is left. The frame is one of those held; where it is an anchor, its group are all frames before it that are
-    /// held.
+    /// held. What was let go isn't held again.
     pub fn plan_next(&mut self) -> Option<Step>
         ensures none { result ≡ None
-            ↔ (((length self.old.held ≤ AHEAD) × (self.old.closed ≡ false)) ⊎ (self.old.held ≡ [])) }
+            ↔ (((length self.old.held ≤ AHEAD) × (self.old.closed ≡ false))
+            ⊎ (self.old.held ≡ [])) }
         ensures same { result ≡ None → self.new ≡ self.old }
         ensures stands { (pushed : List Summary) (given : List Step)
             → StandsFor ahead self.old pushed given
@@ -102,6 +104,7 @@ impl Window {
             (λ step. StandsFor ahead self.new pushed (step ∷ given)) }
         ensures frame { MatchOption result ⊤
             (λ step. (self.old.first ≤ step.frame) × (step.frame < count_pushed self.old)) }
+        ensures first { self.old.first ≤ self.new.first }
         ensures group { (pushed : List Summary) (given : List Step)
             → StandsFor ahead self.old pushed given
             → MatchOption result ⊤ (λ step. step.anchor ≡ true
@@ -192,6 +195,7 @@ impl Window {
             → StandsAt ahead self.old distance pushed given
             → StandsFor ahead self.new pushed given }
         ensures left { steps_left self.new + 1 ≡ length self.old.held }
+        ensures first { self.old.first ≤ self.new.first }
         ensures count { count_pushed self.new ≡ count_pushed self.old }
         ensures closed { self.new.closed ≡ self.old.closed }
     {
