@@ -46,7 +46,8 @@ pub fn predict(
     requires forward { HasSizeOf head.now refs.now.forward.now }
     requires backward { HasSizeOf head.now refs.now.backward.now }
     ensures { (p : Plane) (b : ℕ) → IsBlockOf p b → HoldsPrediction
-        head.now d.now (references_lent refs.now) mb_x mb_y p b (slice_index_or out.new.blocks b []) }
+        head.now d.now (references_lent refs.now) mb_x mb_y p b
+        (slice_index_or out.new.blocks b []) }
 {
     if d.intra {
         clear(&mut out.blocks);
