@@ -2,11 +2,17 @@
 use Rattle.std.proofs.Common.{◌≡◌, ℕ, List, ◌∷◌, length, Option, Result, Ok, Err, refl, sym, ap, ◌∙◌, subst}
 use Rattle.mv_terms.specs.declared.status.Why.{Why}
 use Rattle.mv_terms.specs.declared.head.Head.{Head}
+use Rattle.mv_terms.specs.declared.macroblock.Decision.{Decision}
+use Rattle.mv_terms.specs.declared.macroblock.MacroLevels.{MacroLevels}
+use Rattle.mv_terms.specs.Ranges.{IsHead}
+use Rattle.mv_terms.specs.CodedPicture.{HasMacroblocks}
 use Rattle.mv_terms.specs.UnitLists.{UnitLists}
 use Rattle.mv_heads.specs.declared.head_state.Heads.{Heads}
 use Rattle.mv_heads.specs.declared.head_state.Accepted.{Accepted}
 use Rattle.mv_heads.specs.HeadsInTurn.{after, head_answer}
 use Rattle.mv_slices.specs.Slices.{Slices, RefusesSlices}
+use Rattle.mv_slices.proofs.LegalLaws.{coded_is_legal}
+use Rattle.mv_vectors.specs.Predictable.{AllCanBeReconstructed}
 use Rattle.mv_units.specs.Profile.{CodedUnit, heads_in, RefusedBy}
 use Rattle.mv_planes.specs.References.{DecodedPicture}
 use Rattle.mv_recon.specs.Decoded.{pictures_of, decoded_behind}
@@ -14,7 +20,7 @@ use Rattle.mv_store.specs.declared.store.Shown.{Shown}
 use Rattle.mv_store.specs.Stored.{HasCommitted, StandsFor as IsStoreOf}
 use Rattle.mv_decode.specs.declared.decoder.Decoder.{Decoder}
 use Rattle.mv_decode.specs.Units.{pictures_in, IsFirstSize}
-use Rattle.mv_decode.specs.Stands.{StandsFor, DecodesUnit, Decodes, KeepsUnits}
+use Rattle.mv_decode.specs.Stands.{CanBeCoded, StandsFor, DecodesUnit, Decodes, KeepsUnits}
 use Rattle.mv_decode.specs.Steps.{IsBehindFirst, IsPlaced, coded_as}
 use Rattle.mv_decode.proofs.HeaderLaws.{HasHeaders}
 
@@ -23,7 +29,7 @@ unfolding pictures_of
 pictures_more u before = refl
 
 -- the committed picture, in a store of this size
-committed_as : (mb_wide mb_high wide high : ℕ) (store : Rattle.mv_store.specs.declared.store.RefStore.RefStore) (last : DecodedPicture) (before : List DecodedPicture)
+pub committed_as : (mb_wide mb_high wide high : ℕ) (store : Rattle.mv_store.specs.declared.store.RefStore.RefStore) (last : DecodedPicture) (before : List DecodedPicture)
     → wide ≡ mb_wide → high ≡ mb_high → HasCommitted wide high store last before → HasCommitted mb_wide mb_high store last before
 committed_as mb_wide mb_high wide high store last before same_wide same_high h =
     subst (λ (w : ℕ). HasCommitted w mb_high store last before) same_wide (subst (λ (k : ℕ). HasCommitted wide k store last before) same_high h)
@@ -40,14 +46,28 @@ still_stands mb_wide mb_high old new before s kept decisions levels = record {
   levels = levels ∙ s.levels;
 }
 
+-- what was read with a legal head can be coded again
+can_be_coded : (head : Head) (bytes : List ℕ) (decisions : List Decision) (levels : List MacroLevels)
+    → IsHead head → HasMacroblocks (coded_as head decisions levels) → Slices head bytes decisions levels → AllCanBeReconstructed head decisions
+    → CanBeCoded (coded_as head decisions levels)
+can_be_coded head bytes decisions levels legal macroblocks read predictable =
+    let both = coded_is_legal head bytes decisions levels legal.precision read in
+    record {
+      head = legal;
+      macroblocks = macroblocks;
+      legal = record { f_codes = legal.f_code; precision = legal.precision; size = legal.size; legal_decisions = both.0; legal_levels = both.1 };
+      predictable = predictable;
+    }
+
 -- a unit whose headers and slices are accepted, and whose picture is in the store
 pub accepts_unit : (mb_wide mb_high : ℕ) (old new : Decoder) (before : List CodedUnit) (lists : UnitLists) (shown : Shown)
     → StandsFor mb_wide mb_high old before → (h : HasHeaders mb_wide mb_high before lists new.heads new.head)
+    → IsHead new.head → HasMacroblocks (coded_as new.head new.decisions.items new.levels.items) → AllCanBeReconstructed new.head new.decisions.items
     → Slices new.head lists.slices new.decisions.items new.levels.items
     → length new.decisions.items ≡ length old.decisions.items → length new.levels.items ≡ length old.levels.items
     → IsPlaced new.store (coded_as new.head new.decisions.items new.levels.items) (pictures_in before) shown
     → DecodesUnit mb_wide mb_high new before lists shown
-accepts_unit mb_wide mb_high old new before lists shown s h slices decisions levels placed =
+accepts_unit mb_wide mb_high old new before lists shown s h legal macroblocks predictable slices decisions levels placed =
     let picture = coded_as new.head new.decisions.items new.levels.items in
     let u : CodedUnit = record { lists = lists; accepted = h.accepted; picture = picture } in
     let committed = committed_as mb_wide mb_high new.head.mb_wide new.head.mb_high new.store (decoded_behind (pictures_in before) picture) (pictures_in before) h.wide h.high placed.committed in
@@ -73,6 +93,7 @@ accepts_unit mb_wide mb_high old new before lists shown s h slices decisions lev
         levels = refl;
         wide = h.wide;
         high = h.high;
+        legal = can_be_coded new.head lists.slices new.decisions.items new.levels.items legal macroblocks slices predictable;
       };
       shown_is = placed.shown_is;
     }

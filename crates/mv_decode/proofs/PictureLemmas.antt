@@ -18,7 +18,7 @@ pub record AreOfSize (mb_wide mb_high : ℕ) (refs : References) : Type 0 where
   pub forward : IsOfSize mb_wide mb_high refs.forward
   pub backward : IsOfSize mb_wide mb_high refs.backward
 
-sized : (t : PicType) (mb_wide mb_high : ℕ) (before : List DecodedPicture)
+pub sized : (t : PicType) (mb_wide mb_high : ℕ) (before : List DecodedPicture)
     → IsOfSize mb_wide mb_high (last_anchor mb_wide mb_high before) → IsOfSize mb_wide mb_high (older_anchor mb_wide mb_high before)
     → AreOfSize mb_wide mb_high (references t mb_wide mb_high before)
 sized pic.I mb_wide mb_high before last older = record { forward = last; backward = older }

@@ -1,11 +1,14 @@
 -- What a decoder stands for: the units that it accepted, in coded order, the latest first.
 use Rattle.std.specs.Prelude.{◌≡◌, ℕ, ◌*◌, List, ◌∷◌, length, Result, Ok, Err}
 use Rattle.mv_terms.specs.declared.status.Why.{Why}
-use Rattle.mv_terms.specs.CodedPicture.{pic_of}
+use Rattle.mv_terms.specs.Ranges.{IsHead}
+use Rattle.mv_terms.specs.CodedPicture.{CodedPicture, HasMacroblocks, pic_of}
 use Rattle.mv_terms.specs.UnitLists.{UnitLists}
-use Rattle.mv_planes.specs.References.{type_of}
+use Rattle.mv_vectors.specs.Predictable.{AllCanBeReconstructed}
+use Rattle.mv_slices.specs.CanonicalLaws.{IsLegalPicture}
+use Rattle.mv_planes.specs.References.{type_of, references_lent}
 use Rattle.mv_planes.specs.declared.coded.Coded.{Coded}
-use Rattle.mv_planes.specs.References.{references_lent}
+use Rattle.mv_predict.specs.Blocks.{HasSizeOf}
 use Rattle.mv_recon.specs.Decoded.{references_behind, decoded_behind}
 use Rattle.mv_store.specs.declared.store.Shown.{Shown}
 use Rattle.mv_store.specs.Answers.{answer_to}
@@ -24,6 +27,14 @@ pub record StandsFor (mb_wide mb_high : ℕ) (decoder : Decoder)
   pub decisions : length decoder.decisions.items ≡ mb_wide * mb_high
   pub levels : length decoder.levels.items ≡ mb_wide * mb_high
 
+-- A picture that can be coded again: its head has legal fields, and its decisions and levels are legal, one of each for
+-- each macroblock.
+pub record CanBeCoded (picture : CodedPicture) : Type 0 where
+  pub head : IsHead picture.head
+  pub macroblocks : HasMacroblocks picture
+  pub legal : IsLegalPicture picture.head picture.decisions picture.levels
+  pub predictable : AllCanBeReconstructed picture.head picture.decisions
+
 -- This unit was accepted last, behind the others, and none was refused since.
 pub record HasAccepted (mb_wide mb_high : ℕ) (decoder : Decoder) (u : CodedUnit)
     (before : List CodedUnit) : Type 0 where
@@ -36,6 +47,7 @@ pub record HasAccepted (mb_wide mb_high : ℕ) (decoder : Decoder) (u : CodedUni
   pub levels : decoder.levels.items ≡ u.picture.levels
   pub wide : u.picture.head.mb_wide ≡ mb_wide
   pub high : u.picture.head.mb_high ≡ mb_high
+  pub legal : CanBeCoded u.picture
 
 -- A unit behind others is accepted, and the answer says what is shown now.
 pub record DecodesUnit (mb_wide mb_high : ℕ) (new : Decoder) (before : List CodedUnit)
@@ -67,3 +79,18 @@ pub record IsLent (coded : Coded) (u : CodedUnit) (before : List CodedUnit) : Ty
   pub picture : coded.picture.now ≡ (decoded_behind (pictures_in before) u.picture).picture
   pub refs : references_lent coded.refs ≡ references_behind (pictures_in before) u.picture
   pub extended : coded.extended ≡ u.accepted.heads.in_force.extended
+
+-- the picture that is lent, as it is coded
+abbrev pub picture_lent : Coded → CodedPicture
+picture_lent coded = record {
+  head = coded.head.now;
+  decisions = coded.decisions.now;
+  levels = coded.levels.now;
+}
+
+-- What is lent can be coded again, and the picture that it decodes to and the references have its size.
+pub record LendsLegal (coded : Coded) : Type 0 where
+  pub legal : CanBeCoded (picture_lent coded)
+  pub picture : HasSizeOf coded.head.now coded.picture.now
+  pub forward : HasSizeOf coded.head.now coded.refs.forward.now
+  pub backward : HasSizeOf coded.head.now coded.refs.backward.now

@@ -7,11 +7,10 @@ ghost use Rattle.mv_bits.specs.Elements.{are_elements};
 ghost use Rattle.mv_heads.specs.HeadsInTurn.{context_in};
 ghost use Rattle.mv_vectors.specs.Predictable.{AllCanBeReconstructed};
 ghost use Rattle.mv_planes.specs.References.{DecodedPicture};
-ghost use Rattle.mv_store.specs.Stored.{IsOfSize};
 ghost use Rattle.mv_slices.specs.Steps.{ReadsSlices};
 ghost use Rattle.mv_units.specs.Profile.{CodedUnit, heads_in};
 ghost use Rattle.mv_decode.specs.Units.{FitsAsFirst};
-ghost use Rattle.mv_decode.specs.Stands.{StandsFor, HasAccepted, Decodes, KeepsUnits, IsLent};
+ghost use Rattle.mv_decode.specs.Stands.{StandsFor, HasAccepted, Decodes, KeepsUnits, IsLent, LendsLegal};
 ghost use Rattle.mv_decode.specs.Steps.{IsPlaced, IsStoreFor, coded_as};
 
 use mv_heads::HeadState;
@@ -111,9 +110,8 @@ impl Decoder {
     pub fn coded(&self) -> Coded<'_>
         ensures lent { (mb_wide mb_high : ℕ) (u : CodedUnit) (before : List CodedUnit)
             → HasAccepted mb_wide mb_high self.now u before → IsLent result u before }
-        ensures size { (mb_wide mb_high : ℕ) (u : CodedUnit) (before : List CodedUnit)
-            → HasAccepted mb_wide mb_high self.now u before
-            → IsOfSize mb_wide mb_high result.picture.now }
+        ensures legal { (mb_wide mb_high : ℕ) (u : CodedUnit) (before : List CodedUnit)
+            → HasAccepted mb_wide mb_high self.now u before → LendsLegal result }
     {
         let Held { refs, picture } = self.store.held(self.head.pic, true);
         Coded {

@@ -50,5 +50,10 @@ returns-clause-decodes c mb_wide mb_high before s fits =
     let placed = subst (λ (l : List MacroLevels). IsPlaced c.place.new.store (coded_as head c.read_picture.new.decisions.items l) (pictures_in before) c.place.result) c.deref-2.ensures.value one in
     accepts_unit mb_wide mb_high c.args.self.now
     (record { heads = c.unit.new.self; store = c.place.new.store; head = head; decisions = c.read_picture.new.decisions; levels = c.read_picture.new.levels })
-    before (lent_unit c.args.parts.now) c.place.result s h
+    before (lent_unit c.args.parts.now) c.place.result s h e.legal
+    (record {
+      decisions = as_many _ mb_wide mb_high head.mb_wide head.mb_high (c.in-Ok.ensures.same_decisions ∙ s.decisions) h.wide h.high;
+      levels = as_many _ mb_wide mb_high head.mb_wide head.mb_high (c.in-Ok.ensures.same_levels ∙ s.levels) h.wide h.high;
+    })
+    c.in-Ok.ensures.predictable
     c.in-Ok.ensures.reads c.in-Ok.ensures.same_decisions c.in-Ok.ensures.same_levels placed
