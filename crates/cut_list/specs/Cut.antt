@@ -154,10 +154,12 @@ AreListed named list entries =
 abbrev pub FailsToOpenCut : List ℕ → Option Inputs → (List ℕ → ℕ) → (List ℕ → ℕ) → Option (List ℕ)
     → Option (List ℕ) → Type 0
 FailsToOpenCut list named before now old new = (Rose (before list) (now list) × Keeps old new)
-    ⊎ ((entries : List Entry) × AreListed named list entries × FailsToOpenLine named entries before now old new)
+    ⊎ ((entries : List Entry) × AreListed named list entries
+    × FailsToOpenLine named entries before now old new)
 
 -- The list couldn't be read, or the input of one of its lines.
 abbrev pub FailsToReadCut : List ℕ → Option Inputs → (List ℕ → ℕ) → (List ℕ → ℕ) → Option (List ℕ)
     → Option (List ℕ) → Type 0
 FailsToReadCut list named before now old new = (Rose (before list) (now list) × Keeps old new)
-    ⊎ ((entries : List Entry) × AreListed named list entries × FailsToReadLine named entries before now old new)
+    ⊎ ((entries : List Entry) × AreListed named list entries
+    × FailsToReadLine named entries before now old new)

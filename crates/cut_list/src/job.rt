@@ -33,9 +33,11 @@ pub fn cut_job<S: Shelf, O: Sink>(alloc: Global, list: &str, shelf: &mut S, out:
     // A fault of an endpoint is answered only where it was counted in this call, for the list or
     // for the input of one of its lines, with the output of the lines before it.
     ensures open_fault { result ≡ Status.OpenFault → FailsToOpenCut list.now (S.named shelf.old)
-        (S.open_faults shelf.old) (S.open_faults shelf.new) (O.written out.old) (O.written out.new) }
+        (S.open_faults shelf.old) (S.open_faults shelf.new)
+        (O.written out.old) (O.written out.new) }
     ensures read_fault { result ≡ Status.ReadFault → FailsToReadCut list.now (S.named shelf.old)
-        (S.read_faults shelf.old) (S.read_faults shelf.new) (O.written out.old) (O.written out.new) }
+        (S.read_faults shelf.old) (S.read_faults shelf.new)
+        (O.written out.old) (O.written out.new) }
     ensures write_fault { result ≡ Status.WriteFault → FailedWrite (O.faults out.old)
         (O.faults out.new) (O.room out.old) (O.written out.old) (O.written out.new) }
 
@@ -100,9 +102,11 @@ fn cut_entries<S: Shelf, O: Sink>(
         (O.written out.old) (O.written out.new)) }
     ensures kind { IsCutStatus result }
     ensures open_fault { result ≡ Status.OpenFault → FailsToOpenLine (S.named shelf.old) entries.now
-        (S.open_faults shelf.old) (S.open_faults shelf.new) (O.written out.old) (O.written out.new) }
+        (S.open_faults shelf.old) (S.open_faults shelf.new)
+        (O.written out.old) (O.written out.new) }
     ensures read_fault { result ≡ Status.ReadFault → FailsToReadLine (S.named shelf.old) entries.now
-        (S.read_faults shelf.old) (S.read_faults shelf.new) (O.written out.old) (O.written out.new) }
+        (S.read_faults shelf.old) (S.read_faults shelf.new)
+        (O.written out.old) (O.written out.new) }
     ensures write_fault { result ≡ Status.WriteFault → FailedWrite (O.faults out.old)
         (O.faults out.new) (O.room out.old) (O.written out.old) (O.written out.new) }
     ensures same_room { O.room out.new ≡ O.room out.old }
