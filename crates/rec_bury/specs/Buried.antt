@@ -34,10 +34,13 @@ number_in_block x y = 8 * (y % 8) + x % 8
 -- the pair that is buried in a sample: none in luma, the first 64 of the slot in Cb, the other 64 in Cr
 abbrev pub buried : ℕ → List ℕ → List ℕ → Plane → ℕ → ℕ → ℕ
 buried wide slots sheet Y x y = 0
-buried wide slots sheet Cb x y = slot_pair slots sheet (macroblock_of wide Cb x y) (number_in_block x y)
-buried wide slots sheet Cr x y = slot_pair slots sheet (macroblock_of wide Cr x y) (64 + number_in_block x y)
+buried wide slots sheet Cb x y =
+    slot_pair slots sheet (macroblock_of wide Cb x y) (number_in_block x y)
+buried wide slots sheet Cr x y =
+    slot_pair slots sheet (macroblock_of wide Cr x y) (64 + number_in_block x y)
 
 -- the frame of a picture: each sample on top of its 10 bits, and below it the pair that is buried
 abbrev pub frame_of : Planes → List ℕ → List ℕ → List ℕ
 frame_of f slots sheet =
-    frame_bytes f.mb_wide f.mb_high (λ p x y. 4 * sample_of f p x y + buried f.mb_wide slots sheet p x y)
+    frame_bytes f.mb_wide f.mb_high (λ p x y. 4 * sample_of f p x y
+    + buried f.mb_wide slots sheet p x y)

@@ -22,7 +22,8 @@ sample_in wide high frame p x y =
 -- the low pair of chroma sample n of macroblock m
 abbrev pub pair_in : ℕ → ℕ → List ℕ → ℕ → ℕ → ℕ
 pair_in wide high frame m n =
-    sample_in wide high frame (if nat_lt n 64 then Cb else Cr) (8 * (m % wide) + n % 8) (8 * (m / wide) + n % 64 / 8) % 4
+    sample_in wide high frame (if nat_lt n 64 then Cb else Cr) (8 * (m % wide) + n % 8)
+    (8 * (m / wide) + n % 64 / 8) % 4
 
 -- byte b of the slot of macroblock m
 abbrev pub byte_in : ℕ → ℕ → List ℕ → ℕ → ℕ → ℕ
@@ -37,7 +38,8 @@ slots_in wide high frame =
 
 unfoldable pub sheet_in : ℕ → ℕ → List ℕ → List ℕ
 sheet_in wide high frame =
-    map (λ i. byte_in wide high frame (i / 12) (20 + i % 12)) (range_with_len 0 (12 * (wide * high)))
+    map (λ i. byte_in wide high frame (i / 12) (20 + i % 12))
+    (range_with_len 0 (12 * (wide * high)))
 
 -- the picture that a frame is a source of: the high 8 bits of each sample
 abbrev pub source_of : ℕ → ℕ → List ℕ → Planes

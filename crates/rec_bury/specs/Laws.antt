@@ -28,7 +28,8 @@ BuriedComesBack = (f : Planes) (slots sheet : List ℕ)
 abbrev pub SealIsOfZeros : Type 0
 SealIsOfZeros = (f : Planes) (slots body seal : List ℕ)
     → length body + 32 ≡ 12 * (f.mb_wide * f.mb_high) → length seal ≡ 32
-    → seal_of f.mb_wide f.mb_high (frame_of f slots (body ++ seal)) ≡ sha256 (frame_of f slots (body ++ replicate 32 0))
+    → seal_of f.mb_wide f.mb_high (frame_of f slots (body ++ seal))
+    ≡ sha256 (frame_of f slots (body ++ replicate 32 0))
 
 -- with zeros in all slots and in the sheet, a frame is one without recoding data
 abbrev pub ZerosAreUnrecorded : Type 0

@@ -24,7 +24,8 @@ without_pair clear v = if clear then 4 * (v / 4) else v
 -- the bytes of a frame with the bits of the seal taken as zero
 abbrev pub unsealed : ℕ → ℕ → List ℕ → List ℕ
 unsealed wide high frame =
-    frame_bytes wide high (λ p x y. without_pair (has_seal wide high p x y) (sample_in wide high frame p x y))
+    frame_bytes wide high (λ p x y. without_pair (has_seal wide high p x y)
+    (sample_in wide high frame p x y))
 
 -- the seal
 abbrev pub seal_of : ℕ → ℕ → List ℕ → List ℕ
@@ -32,4 +33,5 @@ seal_of wide high frame = sha256 (unsealed wide high frame)
 
 -- the last 32 bytes of the sheet that a frame has are its seal
 abbrev pub SealHolds : ℕ → ℕ → List ℕ → Type 0
-SealHolds wide high frame = drop (12 * (wide * high) - 32) (sheet_in wide high frame) ≡ seal_of wide high frame
+SealHolds wide high frame =
+    drop (12 * (wide * high) - 32) (sheet_in wide high frame) ≡ seal_of wide high frame

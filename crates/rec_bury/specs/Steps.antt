@@ -26,7 +26,8 @@ pub record AreRowValues (v : ℕ → ℕ) (samples slots sheet : List ℕ) (at m
       ≡ 4 * slice_index samples (at + x) + slot_pair slots sheet (m + x / 8) (8 * b + x % 8)
 
 -- the values of a chroma plane, whose samples stand from `start` on, and the slots' lines from `first` on
-pub record ArePlaneValues (v : ℕ → ℕ) (samples slots sheet : List ℕ) (start wide high first : ℕ) : Type 0 where
+pub record ArePlaneValues (v : ℕ → ℕ) (samples slots sheet : List ℕ)
+    (start wide high first : ℕ) : Type 0 where
   pub value : (x y : ℕ) → x < 8 * wide → y < 8 * high → v (start + (y * (8 * wide) + x))
       ≡ 4 * slice_index samples (start + (y * (8 * wide) + x))
       + slot_pair slots sheet (macroblock_of wide Cb x y) (8 * first + number_in_block x y)
@@ -49,4 +50,5 @@ piece_byte clear j byte = without_pair (clear && (j % 2 == 0)) byte
 -- the first n bytes of eight samples are those of the frame, so cleared
 pub record IsPiece (piece frame : List ℕ) (start : ℕ) (clear : Bool) (n : ℕ) : Type 0 where
   pub long : length piece ≡ 16
-  pub value : (j : ℕ) → j < n → slice_index piece j ≡ piece_byte clear j (slice_index frame (start + j))
+  pub value : (j : ℕ) → j < n → slice_index piece j
+      ≡ piece_byte clear j (slice_index frame (start + j))

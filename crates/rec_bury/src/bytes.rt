@@ -42,7 +42,8 @@ pub(crate) fn slot_word(slots: &[u8], sheet: &[u8], m: usize, b: usize) -> u16
 /// The byte of the low pairs of four samples, the first one high.
 pub(crate) fn byte_of_pairs(frame: &[u8], at: usize) -> u8
     requires { 2 * at + 8 ≤ length frame.now }
-    ensures { result ≡ 64 * (slice_index frame.now (2 * at) % 4) + 16 * (slice_index frame.now (2 * at + 2) % 4)
+    ensures { result ≡ 64 * (slice_index frame.now (2 * at) % 4)
+        + 16 * (slice_index frame.now (2 * at + 2) % 4)
         + 4 * (slice_index frame.now (2 * at + 4) % 4) + slice_index frame.now (2 * at + 6) % 4 }
 {
     64 * (frame[2 * at] % 4)

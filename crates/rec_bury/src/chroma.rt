@@ -68,7 +68,8 @@ fn put_eight(samples: &[u8], at: usize, word: u16, to: &mut [u8])
     requires from { at + 8 ≤ length samples.now }
     requires room { 2 * at + 16 ≤ length to.old }
     ensures { (v : ℕ → ℕ)
-        → ((x : ℕ) → x < 8 → v (at + x) ≡ 4 * slice_index samples.now (at + x) + pair_of_word word x)
+        → ((x : ℕ) → x < 8 → v (at + x)
+        ≡ 4 * slice_index samples.now (at + x) + pair_of_word word x)
         → AreWritten v to.old at → AreWritten v to.new (at + 8) }
 {
     'columns: for x in 0..8 {

@@ -31,7 +31,8 @@ pub fn bury(picture: &Picture, slots: &[u8], sheet: &[u8], to: &mut [u8])
 fn put_luma(samples: &[u8], n: usize, to: &mut [u8])
     requires from { n ≤ length samples.now }
     requires room { 2 * n ≤ length to.old }
-    ensures { (v : ℕ → ℕ) → ((k : ℕ) → k < n → v k ≡ 4 * slice_index samples.now k) → AreWritten v to.new n }
+    ensures { (v : ℕ → ℕ) → ((k : ℕ) → k < n → v k ≡ 4 * slice_index samples.now k)
+        → AreWritten v to.new n }
 {
     'samples: for k in 0..n {
         put_sample(to, k, 4 * u16::from(samples[k]));

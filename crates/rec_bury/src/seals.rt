@@ -49,8 +49,10 @@ fn hash_line(hasher: &mut Sha256, frame: &[u8], wide: usize, high: usize, y: usi
     requires narrow { wide < 65536 }
     requires low { high < 65536 }
     requires line { y < 8 * high }
-    ensures { Holds256 hasher.old (take (640 * (wide * high) + 16 * (y * wide)) (unsealed wide high frame.now))
-        → Holds256 hasher.new (take (640 * (wide * high) + 16 * ((y + 1) * wide)) (unsealed wide high frame.now)) }
+    ensures { Holds256 hasher.old (take (640 * (wide * high) + 16 * (y * wide))
+        (unsealed wide high frame.now))
+        → Holds256 hasher.new (take (640 * (wide * high) + 16 * ((y + 1) * wide))
+        (unsealed wide high frame.now)) }
 {
     let count = wide * high;
     let first = y / 8 * wide;

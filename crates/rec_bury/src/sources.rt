@@ -18,7 +18,8 @@ pub fn source(frame: &[u8], to: &mut Picture)
 fn shift(frame: &[u8], samples: &mut [u8])
     requires size { length frame.now ≡ 2 * length samples.old }
     requires values { HasTenBits frame.now }
-    ensures { (k : ℕ) → k < length samples.new → slice_index samples.new k ≡ value_at frame.now k / 4 }
+    ensures { (k : ℕ) → k < length samples.new
+        → slice_index samples.new k ≡ value_at frame.now k / 4 }
 {
     let _bytes = frame.len();
     'samples: for k in 0..samples.len() {
