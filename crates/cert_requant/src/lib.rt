@@ -41,7 +41,8 @@ pub fn requantise(
     requires decisions { AllCanBeReconstructed head.now decisions.now }
     requires forward { HasSizeOf head.now refs.now.forward.now }
     requires backward { HasSizeOf head.now refs.now.backward.now }
-    ensures { levels.new ≡ requantised head.now decisions.now source.now (references_lent refs.now) }
+    ensures { levels.new ≡ requantised head.now decisions.now source.now
+        (references_lent refs.now) }
 {
     let wide = usize::from(source.mb_wide());
     let high = usize::from(source.mb_high());
@@ -73,7 +74,8 @@ fn requantise_macroblock(
     requires decision { CanBeReconstructed head.now mb_x mb_y d.now }
     requires forward { HasSizeOf head.now refs.now.forward.now }
     requires backward { HasSizeOf head.now refs.now.backward.now }
-    ensures { to.new ≡ requantised_macroblock head.now d.now source.now (references_lent refs.now) mb_x mb_y }
+    ensures { to.new ≡ requantised_macroblock head.now d.now source.now
+        (references_lent refs.now) mb_x mb_y }
 {
     // for the proof: predicted samples are bytes, as those are that they come from
     are_bytes(refs.forward.samples());
