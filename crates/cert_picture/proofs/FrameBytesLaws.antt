@@ -1,7 +1,6 @@
 -- The sample bytes of a frame.
-use Rattle.std.proofs.Common.{◌≡◌, ℕ, ◌*◌, List, [], ◌∷◌, ◌++◌, length, take, drop, refl, sym, ap, ◌∙◌, subst, arith}
+use Rattle.std.proofs.Common.{◌≡◌, ℕ, ◌*◌, List, [], ◌∷◌, length, refl, arith}
 use Rattle.std.specs.List.{flat_map}
-use Rattle.std.proofs.lemmas.List.{take_at}
 use Rattle.mv_planes.specs.Planes.{Planes}
 use Rattle.rec_bury.specs.FrameBytes.{unrecorded}
 use Rattle.y4m_frames.specs.FrameFile.{sample_bytes}
@@ -13,8 +12,3 @@ two_each (v ∷ samples) = let more = two_each samples in omega (arith, more)
 -- two for each sample
 pub unrecorded_length : (picture : Planes) → length (unrecorded picture) ≡ 2 * length picture.samples
 unrecorded_length picture = two_each picture.samples
-
--- what was lent of a vector was written whole
-pub refilled : (n : ℕ) (items bytes : List ℕ) (picture : Planes) → n ≡ 2 * length picture.samples → bytes ≡ unrecorded picture → take n (bytes ++ drop (length bytes) items) ≡ unrecorded picture
-refilled n items bytes picture long is =
-    take_at bytes (drop (length bytes) items) n (ap (λ (s : List ℕ). length s) is ∙ (unrecorded_length picture ∙ sym long)) ∙ is

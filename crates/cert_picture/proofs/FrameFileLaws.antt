@@ -1,17 +1,15 @@
 -- A frame file as its units come.
-use Rattle.std.proofs.Common.{◌≡◌, ◌≤◌, ℕ, ◌+◌, Bool, true, false, List, [], ◌∷◌, ◌++◌, Option, None, Some, length, map, reverse, take, drop, refl, sym, ap, ◌∙◌, append_assoc, append-nil, arith}
-use Rattle.std.specs.Prelude.{if◌then◌else◌}
+use Rattle.std.proofs.Common.{◌≡◌, ℕ, List, [], ◌∷◌, ◌++◌, map, refl, sym, ap, ◌∙◌, append_assoc, append-nil}
 use Rattle.std.specs.List.{flat_map}
-use Rattle.std.proofs.lemmas.List.{map-append, length-append, take-append-le, take-append-drop}
+use Rattle.std.proofs.lemmas.List.{map-append}
 use Rattle.std.proofs.lemmas.Grind.{flat_map-append}
-use Rattle.mv_terms.specs.Order.{display_order, listed, shown_by, shows, held, anchors, first}
-use Rattle.mv_terms.specs.PicTypes.{is_anchor}
+use Rattle.mv_terms.specs.Order.{listed, shown_by, shows, held}
 use Rattle.mv_terms.proofs.ShownLaws.{shown_and_held}
 use Rattle.mv_units.specs.Profile.{CodedUnit}
 use Rattle.mv_planes.specs.References.{DecodedPicture}
 use Rattle.mv_recon.specs.Decoded.{decoded_behind, pictures_of}
 use Rattle.y4m_frames.specs.FrameFile.{frame, header_line}
-use Rattle.cert_picture.specs.FrameFileOf.{UnitFrame, pic_of_frame, pictures_in, frame_behind, frames_of, shown_samples, header_of, file_of, bytes_of, opening, gives, due_to, due, FileIsDueAndHeld, DueGrows, FramesHavePictures}
+use Rattle.cert_picture.specs.FrameFileOf.{UnitFrame, pic_of_frame, frame_behind, frames_of, header_of, file_of, bytes_of, gives, due_to, due, FileIsDueAndHeld, DueGrows, FramesHavePictures}
 
 -- frames and others behind them
 pub bytes_append : (frames others : List UnitFrame) → bytes_of (frames ++ others) ≡ bytes_of frames ++ bytes_of others

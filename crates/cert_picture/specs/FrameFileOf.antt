@@ -1,22 +1,24 @@
 -- The frame file that the units of a stream decode to. Units, and what is made of them, are in coded order, the latest
 -- first.
-use Rattle.std.specs.Prelude.{◌≡◌, ℕ, List, [], ◌∷◌, ◌++◌, map, reverse, take}
+use Rattle.std.specs.Prelude.{◌≡◌, ℕ, List, [], ◌∷◌, ◌++◌, map, reverse, take, Option, option_map, unwrap_or}
 use Rattle.std.specs.List.{flat_map}
 use Rattle.mv_terms.specs.declared.frame_header.FrameHeader.{FrameHeader}
 use Rattle.mv_terms.specs.declared.head.PicType.{PicType}
-use Rattle.mv_terms.specs.Order.{display_order, shows, held, listed}
+use Rattle.mv_terms.specs.CodedPicture.{pic_of}
+use Rattle.mv_terms.specs.Order.{display_order, shows, held, listed, forward_reference, backward_reference}
 use Rattle.mv_terms.specs.Rates.{frame_header_of}
+use Rattle.mv_heads.specs.HeadsInTurn.{context_bytes}
 use Rattle.mv_units.specs.Profile.{CodedUnit}
-use Rattle.mv_planes.specs.Planes.{Planes}
 use Rattle.mv_planes.specs.References.{DecodedPicture}
-use Rattle.mv_recon.specs.Decoded.{decoded_behind, pictures_of}
-use Rattle.rec_bury.specs.FrameBytes.{unrecorded}
+use Rattle.mv_recon.specs.Decoded.{decoded_behind, pictures_of, references_behind}
+use Rattle.cert_picture.specs.Records.{FrameParts, frame_by, frame_seal, no_seal}
 use Rattle.y4m_frames.specs.FrameFile.{frame, frame_file, header_line}
 
--- The frame of a unit: the picture that it decodes to, and its sample bytes.
+-- The frame of a unit: the picture that it decodes to, the seal of its record, where it has one, and its sample bytes.
 pub record UnitFrame : Type 0 where
   pub unit : CodedUnit
   pub decoded : DecodedPicture
+  pub seal : Option (List ℕ)
   pub samples : List ℕ
 
 abbrev pub pic_of_frame : UnitFrame → PicType
@@ -26,13 +28,35 @@ pic_of_frame f = f.decoded.pic
 abbrev pub pictures_in : List UnitFrame → List DecodedPicture
 pictures_in frames = map (λ f. f.decoded) frames
 
--- The frame of a unit behind other frames. So far frames carry no records, and its bytes are those of its picture alone.
-unfoldable pub frame_behind : List UnitFrame → CodedUnit → UnitFrame
-frame_behind before u = record {
-  unit = u;
-  decoded = decoded_behind (pictures_in before) u.picture;
-  samples = unrecorded (decoded_behind (pictures_in before) u.picture).picture;
+-- a link to a frame: its seal, or zeros where it has no record
+abbrev pub link_to : UnitFrame → List ℕ
+link_to f = unwrap_or f.seal no_seal
+
+-- What the frame of a unit behind other frames is made from. It has links to the frames that a picture of its type
+-- refers to, where there are such frames.
+abbrev pub parts_behind : List UnitFrame → CodedUnit → FrameParts
+parts_behind before u = record {
+  lists = u.lists;
+  picture = u.picture;
+  context = context_bytes (u.lists ∷ map (λ f. f.unit.lists) before);
+  extended = u.accepted.heads.in_force.extended;
+  decoded = (decoded_behind (pictures_in before) u.picture).picture;
+  references = references_behind (pictures_in before) u.picture;
+  forward = option_map link_to (forward_reference pic_of_frame (pic_of u.picture) before);
+  backward = option_map link_to (backward_reference pic_of_frame (pic_of u.picture) before);
 }
+
+-- the frame of a unit behind other frames
+unfoldable pub frame_behind : List UnitFrame → CodedUnit → UnitFrame
+frame_behind before u =
+    let parts = parts_behind before u in
+    let seal = frame_seal parts in
+    record {
+      unit = u;
+      decoded = decoded_behind (pictures_in before) u.picture;
+      seal = seal;
+      samples = frame_by parts seal;
+    }
 
 -- the frames of units
 unfoldable pub frames_of : List CodedUnit → List UnitFrame

@@ -1,1 +1,6 @@
+pub mod Records
+pub mod Lent
 pub mod FrameFileOf
+pub mod RecordLaws
+pub mod Certifying
+pub mod CertifyingSteps

@@ -1,5 +1,0 @@
-use Rattle.cert_picture.proofs.FrameFileLaws.{due_grows}
-use Rattle.cert_picture.proofs.due_law.Goals as goal
-
-pub returns : goal.returns
-returns c = due_grows
