@@ -1,3 +1,5 @@
+mod SequenceLaws
+mod Made
 mod Sends
 mod Keeps
 mod OutcomeLaws

@@ -13,11 +13,11 @@ use Rattle.mv_terms.proofs.ShownLaws.{held_grows}
 use Rattle.mv_bits.specs.Elements.{are_elements}
 use Rattle.mv_bits.proofs.JoinLaws.{front_none}
 use Rattle.mv_heads.specs.HeadsInTurn.{context_in}
-use Rattle.mv_units.specs.Shape.{IsUnitSlices}
+use Rattle.mv_slices.specs.UnitSlices.{IsUnitSlices}
 use Rattle.mv_units.specs.Profile.{CodedUnit, Refuses, heads_in}
 use Rattle.mv_planes.specs.Planes.{Planes, IsWhole}
 use Rattle.mv_planes.specs.References.{DecodedPicture, type_of}
-use Rattle.mv_recon.specs.Decoded.{decoded_behind, references_behind}
+use Rattle.mv_recon.specs.Decoded.{references_behind}
 use Rattle.mv_recon.specs.Pictures.{prediction_from}
 use Rattle.mv_recon.proofs.PictureLemmas.{pictures_have_their_samples}
 use Rattle.mv_store.specs.declared.store.Shown.{Shown}
@@ -25,17 +25,18 @@ use Rattle.mv_store.specs.declared.store.Shown.TheVariants.{Nothing, Previous, C
 use Rattle.mv_store.specs.Answers.{answer_to, answer_to_anchor}
 use Rattle.mv_decode.specs.Units.{pictures_in, FitsAsFirst}
 use Rattle.mv_decode.specs.Stands.{StandsFor as IsDecoderOf, DecodesUnit as DecoderDecodes, IsLent}
-use Rattle.rec_bury.specs.FrameBytes.{unrecorded}
 use Rattle.y4m_frames.specs.FrameFile.{frame}
 use Rattle.cert_picture.specs.FrameFileOf.{UnitFrame, pic_of_frame, pictures_in as pictures_of_frames, frame_behind, frames_of, bytes_of, opening, gives, held_frame}
 use Rattle.cert_picture.proofs.FrameFileLaws.{frames_have_pictures}
-use Rattle.cert_picture.proofs.FrameBytesLaws.{unrecorded_length}
 use Rattle.mv_planes.specs.declared.coded.Coded.{Coded}
-use Rattle.mv_store.specs.Stored.{IsOfSize}
+use Rattle.mv_terms.specs.CodedPicture.{macroblocks}
+use Rattle.mv_terms.specs.declared.head.Head.{Head}
+use Rattle.mv_predict.specs.Blocks.{HasSizeOf}
+use Rattle.job_decode.specs.declared.frames.FrameMaker.{FrameMaker}
 use Rattle.job_decode.specs.declared.work.Work.{Work}
 use Rattle.job_decode.specs.declared.work.Stop.{Stop}
 use Rattle.job_decode.specs.declared.work.Stop.TheVariants as stop
-use Rattle.job_decode.specs.Steps.{AreHeld, IsWork, IsStarted, WorkStands, MayTake, HasDecoded, is_empty, heading, shown_frame, kept, held_bytes, Takes, TakesWhole, StepsTo}
+use Rattle.job_decode.specs.Steps.{AreHeld, MakesFrames, HasMade, IsWork, IsStarted, WorkStands, MayTake, HasDecoded, is_empty, heading, shown_frame, kept, held_bytes, Takes, TakesWhole, StepsTo}
 
 -- slices are elements
 pub are_their_elements : (slices : List ℕ) → IsUnitSlices slices → are_elements slices ≡ true
@@ -113,13 +114,14 @@ held_by before u = held_grows pic_of_frame (frame_behind (frames_of before) u) (
 -- what keeping a frame leaves as it is
 record Keeps (mid new : Work) : Type 0 where
   decoder : new.decoder ≡ mid.decoder
+  frames : new.frames ≡ mid.frames
   held_room : (n : ℕ) → length mid.held.items ≡ n → length mid.next.items ≡ n → length new.held.items ≡ n
   next_room : (n : ℕ) → length mid.held.items ≡ n → length mid.next.items ≡ n → length new.next.items ≡ n
 
 keeps : (shown : Shown) (mid : Work) → Keeps mid (kept shown mid)
-keeps Nothing mid = record { decoder = refl; held_room = λ n a b. b; next_room = λ n a b. a }
-keeps Previous mid = record { decoder = refl; held_room = λ n a b. b; next_room = λ n a b. a }
-keeps Current mid = record { decoder = refl; held_room = λ n a b. a; next_room = λ n a b. b }
+keeps Nothing mid = record { decoder = refl; frames = refl; held_room = λ n a b. b; next_room = λ n a b. a }
+keeps Previous mid = record { decoder = refl; frames = refl; held_room = λ n a b. b; next_room = λ n a b. a }
+keeps Current mid = record { decoder = refl; frames = refl; held_room = λ n a b. a; next_room = λ n a b. b }
 
 stands_behind : (old mid new : Work) (before : List CodedUnit) (lists : UnitLists) (shown : Shown) → IsWork old before → (d : HasDecoded old mid before lists shown) → new ≡ kept shown mid
     → IsWork new (d.unit ∷ before)
@@ -138,6 +140,7 @@ stands_behind old mid new before lists shown stands d is =
       mb_wide = d.mb_wide;
       mb_high = d.mb_high;
       decoder = subst (λ x. IsDecoderOf d.mb_wide d.mb_high x (d.unit ∷ before)) (sym same.decoder) d.decoder;
+      frames = subst (λ (x : FrameMaker). MakesFrames (d.mb_wide * d.mb_high) x (frames_of (d.unit ∷ before))) (sym same.frames) d.frames;
       holds = now.holds;
       held_is = now.held_is;
       held_room = same.held_room (768 * (d.mb_wide * d.mb_high)) d.held_room d.next_room;
@@ -220,34 +223,51 @@ is_first before none = sym (ap is_empty none)
 pub started : (work : Work) (mb_wide mb_high : ℕ) (lists : UnitLists) → IsStarted mb_wide mb_high work → FitsAsFirst mb_wide mb_high [] lists → MayTake work [] lists
 unfolding frames_of
 started work mb_wide mb_high lists s fits = record {
-  stands = record { mb_wide = mb_wide; mb_high = mb_high; decoder = s.stands; holds = s.holds; held_is = tt; held_room = s.held_room; next_room = s.next_room };
+  stands = record { mb_wide = mb_wide; mb_high = mb_high; decoder = s.stands; frames = s.frames; holds = s.holds; held_is = tt; held_room = s.held_room; next_room = s.next_room };
   fits = fits;
 }
 
--- a picture has so many samples
-pub room_is : (before : List CodedUnit) (u : CodedUnit) (mb_wide mb_high : ℕ) (picture : Planes) → picture ≡ (decoded_behind (pictures_in before) u.picture).picture → IsOfSize mb_wide mb_high picture
-    → 2 * length picture.samples ≡ 768 * (mb_wide * mb_high)
-room_is before u mb_wide mb_high picture is size =
-    let whole : IsWhole picture = subst (λ (p : Planes). IsWhole p) (sym is) (pictures_have_their_samples (prediction_from (references_behind (pictures_in before) u.picture) u.picture) u.picture).whole in
-    let count : picture.mb_wide * picture.mb_high ≡ mb_wide * mb_high = ap (λ (k : ℕ). k * picture.mb_high) size.wide ∙ ap (λ (k : ℕ). mb_wide * k) size.high in
-    let samples : length picture.samples ≡ 384 * (mb_wide * mb_high) = whole ∙ ap (λ (k : ℕ). 384 * k) count in
-    omega (arith, samples)
+-- ---- the frame of a unit is made
 
--- the frame of a unit is made
+-- the size that a lent picture has
+pub record IsOfWork (mb_wide mb_high : ℕ) (coded : Coded) : Type 0 where
+  pub count : macroblocks coded.head.now ≡ mb_wide * mb_high
+  pub samples : 2 * length coded.picture.now.samples ≡ 768 * (mb_wide * mb_high)
+
+pub size_is : (before : List CodedUnit) (u : CodedUnit) (mb_wide mb_high : ℕ) (coded : Coded) → IsLent coded u before → HasSizeOf coded.head.now coded.picture.now
+    → u.picture.head.mb_wide ≡ mb_wide → u.picture.head.mb_high ≡ mb_high → IsOfWork mb_wide mb_high coded
+size_is before u mb_wide mb_high coded lent size wide high =
+    let head = coded.head.now in
+    let whole : IsWhole coded.picture.now = subst (λ (p : Planes). IsWhole p) (sym lent.picture) (pictures_have_their_samples (prediction_from (references_behind (pictures_in before) u.picture) u.picture) u.picture).whole in
+    let as_wide : head.mb_wide ≡ mb_wide = ap (λ (h : Head). h.mb_wide) lent.head ∙ wide in
+    let as_high : head.mb_high ≡ mb_high = ap (λ (h : Head). h.mb_high) lent.head ∙ high in
+    let count : head.mb_wide * head.mb_high ≡ mb_wide * mb_high = ap (λ (k : ℕ). k * head.mb_high) as_wide ∙ ap (λ (k : ℕ). mb_wide * k) as_high in
+    let planes : coded.picture.now.mb_wide * coded.picture.now.mb_high ≡ mb_wide * mb_high = ap (λ (k : ℕ). k * coded.picture.now.mb_high) size.wide ∙ (ap (λ (k : ℕ). head.mb_wide * k) size.high ∙ count) in
+    let samples : length coded.picture.now.samples ≡ 384 * (mb_wide * mb_high) = whole ∙ ap (λ (k : ℕ). 384 * k) planes in
+    record { count = count; samples = omega (arith, samples) }
+
+pub frames_for : (count n : ℕ) (maker : FrameMaker) (frames : List UnitFrame) → count ≡ n → MakesFrames n maker frames → MakesFrames count maker frames
+frames_for count n maker frames same h = subst (λ (k : ℕ). MakesFrames k maker frames) (sym same) h
+
+frames_more : (before : List CodedUnit) (u : CodedUnit) (n : ℕ) (maker : FrameMaker) → MakesFrames n maker (frame_behind (frames_of before) u ∷ frames_of before) → MakesFrames n maker (frames_of (u ∷ before))
+unfolding frames_of
+frames_more before u n maker h = h
+
 pub decoded : (old mid : Work) (before : List CodedUnit) (lists : UnitLists) (shown : Shown) (coded : Coded) (m : MayTake old before lists) → (d : DecoderDecodes m.stands.mb_wide m.stands.mb_high mid.decoder before lists shown)
-    → IsLent coded d.unit before → IsOfSize m.stands.mb_wide m.stands.mb_high coded.picture.now
-    → mid.next.items ≡ unrecorded coded.picture.now → mid.held ≡ old.held → mid.holds ≡ old.holds → HasDecoded old mid before lists shown
-unfolding frame_behind
-decoded old mid before lists shown coded m d lent size made held holds = record {
+    → IsOfWork m.stands.mb_wide m.stands.mb_high coded → HasMade (macroblocks coded.head.now) mid.frames mid.next.items (frames_of before) d.unit
+    → length mid.next.items ≡ length old.next.items → mid.held ≡ old.held → mid.holds ≡ old.holds → HasDecoded old mid before lists shown
+decoded old mid before lists shown coded m d size made same_room held holds = record {
   unit = d.unit;
   accepts = d.accepts;
   mb_wide = m.stands.mb_wide;
   mb_high = m.stands.mb_high;
   decoder = d.accepted.stands;
+  frames = frames_for (m.stands.mb_wide * m.stands.mb_high) (macroblocks coded.head.now) mid.frames (frames_of (d.unit ∷ before)) (sym size.count)
+      (frames_more before d.unit (macroblocks coded.head.now) mid.frames made.stands);
   shown_is = d.shown_is ∙ answer_is before d.unit.picture.head.pic;
-  next = made ∙ (ap unrecorded lent.picture ∙ ap (λ (ps : List DecodedPicture). unrecorded (decoded_behind ps d.unit.picture).picture) (sym (frames_have_pictures before)));
+  next = made.samples_are;
   held = held;
   holds = holds;
   held_room = ap (λ x. length x.items) held ∙ m.stands.held_room;
-  next_room = ap (λ (s : List ℕ). length s) made ∙ (unrecorded_length coded.picture.now ∙ room_is before d.unit m.stands.mb_wide m.stands.mb_high coded.picture.now lent.picture size);
+  next_room = same_room ∙ m.stands.next_room;
 }

@@ -1,5 +1,5 @@
 -- What each step of decoding answers. Nobody needs to believe it: it only carries proofs.
-use Rattle.std.specs.Prelude.{◌≡◌, ◌⊎◌, ⊤, ◌≤◌, ◌<◌, ℕ, ◌+◌, ◌-◌, ◌*◌, Bool, true, false, if◌then◌else◌, List, [], ◌∷◌, ◌++◌, length, take, drop, is_some, Option, None, Some, Result, Ok, Err}
+use Rattle.std.specs.Prelude.{◌≡◌, ◌⊎◌, ⊤, ◌≤◌, ◌<◌, ℕ, ◌+◌, ◌-◌, ◌*◌, Bool, true, false, if◌then◌else◌, List, [], ◌∷◌, ◌++◌, length, map, take, drop, is_some, Option, None, Some, option_map, unwrap_or, Result, Ok, Err}
 use Rattle.std.specs.Option.{ForSome}
 use Rattle.std.specs.Io.KnownBytes.{Appends, Consumes, IsAtEnd, Keeps}
 use Rattle.mv_ends.specs.Ends.{Ends, Outcome}
@@ -9,9 +9,12 @@ use Rattle.mv_terms.specs.declared.status.Why.{Why}
 use Rattle.mv_terms.specs.declared.status.Status.{Status}
 use Rattle.mv_terms.specs.declared.status.Status.TheVariants as status
 use Rattle.mv_terms.specs.declared.head.Context.{Context}
-use Rattle.mv_terms.specs.Order.{held}
+use Rattle.mv_terms.specs.declared.head.PicType.{PicType}
+use Rattle.mv_terms.specs.declared.head.PicType.TheVariants as pic
+use Rattle.mv_terms.specs.Order.{anchors, first, held, second}
 use Rattle.mv_terms.specs.Rates.{frame_header_of}
 use Rattle.mv_terms.specs.UnitLists.{UnitLists}
+use Rattle.mv_heads.specs.HeadsInTurn.{context_bytes}
 use Rattle.mv_units.specs.Units.{Fed, StandsFor, units_within}
 use Rattle.mv_units.specs.Profile.{CodedUnit, Accepts, Refuses, heads_in}
 use Rattle.mv_store.specs.declared.store.Shown.{Shown}
@@ -20,12 +23,62 @@ use Rattle.mv_store.specs.Answers.{answer_to}
 use Rattle.mv_decode.specs.Stands.{StandsFor as IsDecoderOf}
 use Rattle.mv_decode.specs.Units.{FitsAsFirst}
 use Rattle.y4m_frames.specs.FrameFile.{frame, header_line}
-use Rattle.cert_picture.specs.FrameFileOf.{UnitFrame, pic_of_frame, frame_behind, frames_of, gives, held_frame}
+use Rattle.cert_picture.specs.Records.{no_seal}
+use Rattle.cert_picture.specs.Lent.{HasRoomFor}
+use Rattle.cert_picture.specs.FrameFileOf.{UnitFrame, pic_of_frame, link_to, frame_behind, frames_of, gives, held_frame}
+use Rattle.job_decode.specs.declared.frames.FrameMaker.{FrameMaker}
+use Rattle.job_decode.specs.declared.links.Links.{Links}
 use Rattle.job_decode.specs.declared.work.Work.{Work}
 use Rattle.job_decode.specs.declared.work.Stop.{Stop}
 use Rattle.job_decode.specs.declared.work.Stop.TheVariants as stop
 use Rattle.job_decode.specs.declared.piece.Piece.{Piece}
 use Rattle.job_decode.specs.Stream.{IsOutcome, AppendsTaken, TakesNear, piece_limit}
+
+-- ---- the frames
+
+-- what is kept of a sequence part: of one that is too long for a record enough to show it
+abbrev pub kept_limit : ℕ
+kept_limit = 65536
+
+abbrev pub kept_front : List ℕ → List ℕ
+kept_front bytes = take kept_limit bytes
+
+abbrev pub lists_in : List UnitFrame → List UnitLists
+lists_in frames = map (λ f. f.unit.lists) frames
+
+-- the links to the last two anchors among these frames, where there are such
+pub record LinksStand (links : Links) (frames : List UnitFrame) : Type 0 where
+  pub last : links.last ≡ option_map link_to (first (anchors pic_of_frame frames))
+  pub older : links.older ≡ option_map link_to (second (anchors pic_of_frame frames))
+
+abbrev pub forward_link : PicType → Links → Option (List ℕ)
+forward_link pic.I links = None
+forward_link pic.P links = links.last
+forward_link pic.B links = links.older
+
+abbrev pub backward_link : PicType → Links → Option (List ℕ)
+backward_link pic.B links = links.last
+backward_link other links = None
+
+-- the links behind a frame of this type with this seal
+abbrev pub with_seal : PicType → Option (List ℕ) → Links → Links
+with_seal pic.B seal links = links
+with_seal other seal links = record {
+  last = Some (unwrap_or seal no_seal);
+  older = links.last;
+}
+
+-- The maker may make the frame behind these frames, the latest first, of a unit with so many macroblocks.
+pub record MakesFrames (count : ℕ) (maker : FrameMaker) (frames : List UnitFrame) : Type 0 where
+  pub sequence : maker.sequence ≡ kept_front (context_bytes (lists_in frames))
+  pub links : LinksStand maker.links frames
+  pub room : HasRoomFor count maker.room
+
+-- it made the frame of a unit behind them
+pub record HasMade (count : ℕ) (new : FrameMaker) (samples : List ℕ) (frames : List UnitFrame)
+    (u : CodedUnit) : Type 0 where
+  pub samples_are : samples ≡ (frame_behind frames u).samples
+  pub stands : MakesFrames count new (frame_behind frames u ∷ frames)
 
 -- ---- the units
 
@@ -39,6 +92,7 @@ pub record IsWork (work : Work) (before : List CodedUnit) : Type 0 where
   pub mb_wide : ℕ
   pub mb_high : ℕ
   pub decoder : IsDecoderOf mb_wide mb_high work.decoder before
+  pub frames : MakesFrames (mb_wide * mb_high) work.frames (frames_of before)
   pub holds : work.holds ≡ is_some (held pic_of_frame (frames_of before))
   pub held_is : AreHeld (held pic_of_frame (frames_of before)) work.held.items
   pub held_room : length work.held.items ≡ 768 * (mb_wide * mb_high)
@@ -56,6 +110,7 @@ WorkStands (Some work) before = IsWork work before × (is_empty before ≡ false
 -- work before the first unit, for pictures of this size
 pub record IsStarted (mb_wide mb_high : ℕ) (work : Work) : Type 0 where
   pub stands : IsDecoderOf mb_wide mb_high work.decoder []
+  pub frames : MakesFrames (mb_wide * mb_high) work.frames []
   pub holds : work.holds ≡ false
   pub held_room : length work.held.items ≡ 768 * (mb_wide * mb_high)
   pub next_room : length work.next.items ≡ 768 * (mb_wide * mb_high)
@@ -73,6 +128,7 @@ pub record HasDecoded (old new : Work) (before : List CodedUnit) (lists : UnitLi
   pub mb_wide : ℕ
   pub mb_high : ℕ
   pub decoder : IsDecoderOf mb_wide mb_high new.decoder (unit ∷ before)
+  pub frames : MakesFrames (mb_wide * mb_high) new.frames (frames_of (unit ∷ before))
   pub shown_is : shown ≡ answer_to pic_of_frame unit.picture.head.pic (frames_of before)
   pub next : new.next.items ≡ (frame_behind (frames_of before) unit).samples
   pub held : new.held ≡ old.held
@@ -173,7 +229,8 @@ Finishes work answer result old new =
     ((result ≡ answer)
     ×
     ((before : List CodedUnit) → WorkStands work before → Appends old new (held_frame before)))
-    ⊎ ((result ≡ status.WriteFault) × ((before : List CodedUnit) → WorkStands work before → AppendsFront old new (held_frame before)))
+    ⊎ ((result ≡ status.WriteFault) × ((before : List CodedUnit) → WorkStands work before
+    → AppendsFront old new (held_frame before)))
 
 -- the statuses of an input that was opened
 abbrev pub IsStreamStatus : Status → Type 0

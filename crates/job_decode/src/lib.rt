@@ -3,10 +3,15 @@
 //! Its promise: `decode_job` ends as `IsOutcome` in `specs/Stream.antt` defines for the bytes of the named input, in
 //! status and output, but for want of memory and counted faults of its endpoints; `outcome_law` says that each stream
 //! has one outcome. It writes each frame as soon as display order allows, and reads a piece more only where the bytes so
-//! far decide nothing: so the input is taken little further than what is written. `specs/Steps.antt` only carries proofs.
+//! far decide nothing: so the input is taken little further than what is written. The frame of an anchor is made, and its
+//! seal is known to later frames, when it is decoded, and is held until it is shown. `specs/Steps.antt` only carries
+//! proofs.
 #![tactic(auto)]
 
+mod frames;
+mod links;
 mod piece;
+mod sequence;
 mod stream;
 mod work;
 
@@ -25,8 +30,8 @@ use mv_ends::{Shelf, Sink};
 use mv_terms::Status;
 use std::alloc::Global;
 
-/// Writes the frame file that the stream of this name decodes to: the frames of its pictures in the order in which they
-/// are shown (H.262, 6.1.1.11), up to the first unit that is refused.
+/// Writes the frame file that the stream of this name decodes to: the frames of its pictures, each with its record where
+/// it has one, in the order in which they are shown (H.262, 6.1.1.11), up to the first unit that is refused.
 ///
 /// The input may be of any length up to 2^44 bytes. It is read in pieces of at most 65,536 bytes, each when it is
 /// needed, and each frame is written as soon as it is shown. All memory is taken before the first byte is written.

@@ -55,7 +55,8 @@ pub(crate) fn advance<S: Shelf>(
     ensures less { OnOk result (left_to_do piece.new cutter.new < left_to_do piece.old cutter.old) }
     ensures none { OnErr result ((unfed piece.new ≡ []) × (cutter.new ≡ cutter.old)) }
     ensures failed { OnErr result
-        (RoseForSelected (S.selected shelf.old) (S.read_faults shelf.old) (S.read_faults shelf.new)) }
+        (RoseForSelected (S.selected shelf.old)
+        (S.read_faults shelf.old) (S.read_faults shelf.new)) }
     ensures chosen { S.selected shelf.new ≡ S.selected shelf.old }
     ensures kept { KeepsShelf S.named S.open_faults S.read_faults shelf.old shelf.new }
 {

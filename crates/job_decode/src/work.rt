@@ -1,17 +1,17 @@
 //! What a unit of a stream comes to: its frame, and what is shown when it comes.
-ghost use Rattle.std.specs.Prelude.{◌≡◌, ◌≢◌, ◌++◌, ⊤, List, [], None, Some, IfOk, IfErr, IfSome, IsErrOf, IsTrue, option_copied};
+ghost use Rattle.std.specs.Prelude.{◌≡◌, ◌≢◌, ◌++◌, ⊤, List, [], None, Some, IfOk, IfErr, IfSome, IsErrOf, option_copied};
 ghost use Rattle.std.specs.Io.KnownBytes.{Appends};
-ghost use Rattle.mv_bits.specs.Elements.{are_elements};
 ghost use Rattle.mv_ends.specs.Causes.{Counts, FailedWrite};
 ghost use Rattle.mv_ends.specs.Moves.{AppendsFront};
 ghost use Rattle.mv_ends.specs.Sends.{Sends};
 ghost use Rattle.mv_terms.specs.Ranges.{IsContext};
 ghost use Rattle.mv_terms.specs.UnitLists.{lent_unit};
+ghost use Rattle.mv_slices.specs.UnitSlices.{IsUnitSlices};
 ghost use Rattle.mv_units.specs.Profile.{CodedUnit, Refuses};
 ghost use Rattle.cert_picture.specs.FrameFileOf.{held_frame};
 ghost use Rattle.job_decode.specs.Steps.{DecodesUnit, Finishes, IsStarted, IsWork, MayTake, StepsTo, WorkStands, heading, held_bytes, is_empty, kept, shown_frame};
 
-use cert_picture::make_frame;
+use crate::frames::FrameMaker;
 use mv_decode::{Decoder, first_context};
 use mv_ends::{Failed, Sink};
 use mv_store::Shown;
@@ -28,11 +28,12 @@ pub(crate) enum Stop {
     WriteFault,
 }
 
-/// What the units so far leave: the decoder, and the sample bytes of the frame that is held and of the one that was made
-/// last.
+/// What the units so far leave: the decoder, what makes their frames, and the sample bytes of the frame that is held and
+/// of the one that was made last.
 #[derive(Drop)]
 pub(crate) struct Work {
     pub(crate) decoder: Decoder,
+    pub(crate) frames: FrameMaker,
     pub(crate) held: Vec<u8>,
     pub(crate) next: Vec<u8>,
     /// A frame is held: an anchor came.
@@ -47,7 +48,7 @@ pub(crate) fn take_unit<O: Sink>(
     work: &mut Option<Work>,
     out: &mut O,
 ) -> Result<(), Stop>
-    requires elements { IsTrue (are_elements unit.now.slices.now) }
+    requires slices { IsUnitSlices unit.now.slices.now }
     requires stands { (before : List CodedUnit) × WorkStands work.old before }
     ensures steps { (before : List CodedUnit) → WorkStands work.old before
         → StepsTo (λ units. WorkStands work.new units) before (lent_unit unit.now)
@@ -89,6 +90,7 @@ impl Work {
         let count = 768 * (usize::from(context.mb_wide) * usize::from(context.mb_high));
         Ok(Work {
             decoder: Decoder::start(alloc, context)?,
+            frames: FrameMaker::start(alloc, context.mb_wide, context.mb_high)?,
             held: vec![in alloc; 0; count].map_err(|_| NoMemory)?,
             next: vec![in alloc; 0; count].map_err(|_| NoMemory)?,
             holds: false,
@@ -103,7 +105,7 @@ fn step<O: Sink>(
     work: &mut Work,
     out: &mut O,
 ) -> Result<(), Stop>
-    requires elements { IsTrue (are_elements unit.now.slices.now) }
+    requires slices { IsUnitSlices unit.now.slices.now }
     requires stands { (before : List CodedUnit) × MayTake work.old before (lent_unit unit.now)
         × (first ≡ is_empty before) }
     ensures steps { (before : List CodedUnit) → MayTake work.old before (lent_unit unit.now)
@@ -131,14 +133,14 @@ fn step<O: Sink>(
 
 /// Decodes a unit and makes its frame.
 fn decode_unit(unit: &UnitParts<'_>, work: &mut Work) -> Result<Shown, Why>
-    requires elements { IsTrue (are_elements unit.now.slices.now) }
+    requires slices { IsUnitSlices unit.now.slices.now }
     requires stands { (before : List CodedUnit) × MayTake work.old before (lent_unit unit.now) }
     ensures { (before : List CodedUnit) → MayTake work.old before (lent_unit unit.now)
         → DecodesUnit work.old work.new before (lent_unit unit.now) result }
 {
     let shown = work.decoder.unit(unit)?;
     let coded = work.decoder.coded();
-    make_frame(coded.picture, &mut work.next);
+    work.frames.make(&coded, unit, &mut work.next);
     Ok(shown)
 }
 

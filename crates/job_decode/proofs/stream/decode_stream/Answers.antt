@@ -9,7 +9,6 @@ use Rattle.mv_units.specs.Units.{Fed, Settles}
 use Rattle.cert_picture.specs.FrameFileOf.{due}
 use Rattle.job_decode.specs.declared.work.Stop.{Stop}
 use Rattle.job_decode.specs.Steps.{StepsTo, WorkStands, Finishes, unfed}
-use Rattle.job_decode.proofs.Works.{are_their_elements}
 use Rattle.job_decode.proofs.Feeds.{none_unfed, next_fits, next_counted, next_less}
 use Rattle.job_decode.proofs.Turns.{Turn, turn_starts, turn_advances, turn_accepts}
 use Rattle.job_decode.proofs.Exits.{nothing_yet, unread, unit_refused, no_memory_yet, unit_unwritten, cut_settled, cut_ended, counts_kept, exit_counts, still_written}
@@ -54,10 +53,9 @@ returns-in-Err-clause-ends g c =
     (g.O.Sink.written c.args.out.now) (g.O.Sink.written c.units.out) turn
     (subst (λ (f : Fed). Settles f cuts.More) (sym c.in-Err.ensures.none.1) c.in-More.ensures.settles) c.in-Err.ensures.none.0
 
-pub take_unit-requires-clause-elements : goal.take_unit-requires-clause-elements
-take_unit-requires-clause-elements g c =
-    are_their_elements c.unit-unit.result.slices.now
-    (c.unit-unit.ensures.slices c.units.invariant.turn.is_fed.past c.units.invariant.turn.let_go c.units.invariant.turn.is_fed.stands)
+pub take_unit-requires-clause-slices : goal.take_unit-requires-clause-slices
+take_unit-requires-clause-slices g c =
+    c.unit-unit.ensures.slices c.units.invariant.turn.is_fed.past c.units.invariant.turn.let_go c.units.invariant.turn.is_fed.stands
 
 pub returns-in-Err-Refused-clause-ends : goal.returns-in-Err-Refused-clause-ends
 returns-in-Err-Refused-clause-ends g c =
