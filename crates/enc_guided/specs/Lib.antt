@@ -1,0 +1,4 @@
+pub mod Recoded
+pub mod Stands
+pub mod Stream
+pub mod Steps
