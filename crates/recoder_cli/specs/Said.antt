@@ -10,4 +10,5 @@ abbrev pub IsSaid : {M : Type 0} → (M → Option (List ℕ)) → (M → ℕ) �
     → Type 0
 IsSaid written faults room old new line =
     Appends (written old) (written new) line
-    ⊎ (AppendsFront (written old) (written new) line × FailedWrite (faults old) (faults new) (room old) (written old) (written new))
+    ⊎ (AppendsFront (written old) (written new) line
+    × FailedWrite (faults old) (faults new) (room old) (written old) (written new))

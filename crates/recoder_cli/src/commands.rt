@@ -30,10 +30,12 @@ pub fn perform<S: Shelf, O: Sink>(
     ensures form { result ≢ Status.Words }
     ensures open_fault { result ≡ Status.OpenFault
         → FailsToOpen (form_given command.now) (S.named shelf.old)
-        (S.open_faults shelf.old) (S.open_faults shelf.new) (O.written out.old) (O.written out.new) }
+        (S.open_faults shelf.old) (S.open_faults shelf.new)
+        (O.written out.old) (O.written out.new) }
     ensures read_fault { result ≡ Status.ReadFault
         → FailsToRead (form_given command.now) (S.named shelf.old) (S.rest shelf.new)
-        (S.read_faults shelf.old) (S.read_faults shelf.new) (O.written out.old) (O.written out.new) }
+        (S.read_faults shelf.old) (S.read_faults shelf.new)
+        (O.written out.old) (O.written out.new) }
     ensures write_fault { result ≡ Status.WriteFault
         → FailedWrite (O.faults out.old) (O.faults out.new)
         (O.room out.old) (O.written out.old) (O.written out.new) }

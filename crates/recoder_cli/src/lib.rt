@@ -51,8 +51,16 @@ pub fn run<S: Shelf, O: Sink, M: Sink>(
     ensures complete { ForSome (form_of (texts words.now))
         (λ form. ForSome (S.named shelf.old) (λ inputs.
         NoneRose
-        (record { opens = S.open_faults shelf.old; reads = S.read_faults shelf.old; writes = O.faults out.old })
-        (record { opens = S.open_faults shelf.new; reads = S.read_faults shelf.new; writes = O.faults out.new })
+        (record {
+          opens = S.open_faults shelf.old;
+          reads = S.read_faults shelf.old;
+          writes = O.faults out.old;
+        })
+        (record {
+          opens = S.open_faults shelf.new;
+          reads = S.read_faults shelf.new;
+          writes = O.faults out.new;
+        })
         → (outcome : Outcome Status) × IsOutcomeOf form inputs outcome
         × IsComplete outcome result (O.written out.old) (O.written out.new))) }
     ensures done { result ≡ Status.Done
@@ -70,13 +78,15 @@ pub fn run<S: Shelf, O: Sink, M: Sink>(
         FailsToOpen form (S.named shelf.old) (S.open_faults shelf.old) (S.open_faults shelf.new)
         (O.written out.old) (O.written out.new)) }
     ensures read_fault { result ≡ Status.ReadFault → ForSome (form_of (texts words.now)) (λ form.
-        FailsToRead form (S.named shelf.old) (S.rest shelf.new) (S.read_faults shelf.old) (S.read_faults shelf.new)
+        FailsToRead form (S.named shelf.old) (S.rest shelf.new)
+        (S.read_faults shelf.old) (S.read_faults shelf.new)
         (O.written out.old) (O.written out.new)) }
     ensures write_fault { result ≡ Status.WriteFault
         → FailedWrite (O.faults out.old) (O.faults out.new)
         (O.room out.old) (O.written out.old) (O.written out.new) }
     ensures unwritten { result ≡ Status.WriteFault → ForSome (form_of (texts words.now)) (λ form.
-        FailsToWrite form (S.named shelf.old) (S.rest shelf.new) (O.written out.old) (O.written out.new)) }
+        FailsToWrite form (S.named shelf.old) (S.rest shelf.new)
+        (O.written out.old) (O.written out.new)) }
     ensures no_memory { result ≡ Status.NoMemory → ForSome (form_of (texts words.now)) (λ form.
         LacksMemory form (O.written out.old) (O.written out.new)) }
 

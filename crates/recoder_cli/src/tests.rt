@@ -147,6 +147,21 @@ fn grey_frames(alloc: Global, frames: usize) -> Result<Vec<u8>, AllocError> {
     flat_frames(alloc, &vec![in alloc; GREY_SAMPLE; frames]?)
 }
 
+// The same frame file without its records: each frame has 18,438 bytes, and the low bytes of its chroma samples, which
+// stand at even places from 12,294 on, end with zeros.
+fn without_records(alloc: Global, file: &[u8]) -> Result<Vec<u8>, AllocError> {
+    let mut plain = Vec::new(alloc);
+    for (i, byte) in file.iter().enumerate() {
+        let chroma = i >= 40 && (i % 18_438 >= 12_334 || i % 18_438 < 40);
+        plain.push(if chroma && i % 2 == 0 {
+            byte & 0xFC
+        } else {
+            *byte
+        })?;
+    }
+    Ok(plain)
+}
+
 fn words(alloc: Global, texts: &[&str]) -> Result<Vec<String>, AllocError> {
     let mut words = Vec::new(alloc);
     for text in texts {
@@ -162,7 +177,7 @@ fn inputs(alloc: Global, bytes: &[u8]) -> Result<Vec<(String, Vec<u8>)>, AllocEr
     Ok(inputs)
 }
 
-// `decode a` of these bytes ends with this status, so many grey frames and this line.
+// `decode a` of these bytes ends with this status, so many grey frames, but for their records, and this line.
 fn ends(
     rt: &impl Abort,
     alloc: Global,
@@ -176,7 +191,8 @@ fn ends(
     let mut say = MemSink::with_room(alloc, 40)?;
     let words = words(alloc, &["decode", "a"])?;
     assert_eq!(rt; run(alloc, &words, &mut shelf, &mut out, &mut say), status);
-    assert_eq!(rt; out.bytes(), grey_frames(alloc, frames)?.as_slice());
+    let plain = without_records(alloc, out.bytes())?;
+    assert_eq!(rt; plain.as_slice(), grey_frames(alloc, frames)?.as_slice());
     assert_eq!(rt; say.bytes(), line.as_bytes());
     Ok(())
 }
@@ -204,6 +220,50 @@ fn zero_bytes_and_an_end_code_may_stand_behind_the_slices(rt: HostRuntime) -> Re
     for tail in tails {
         let ended = stream(alloc, &[&[SEQUENCE, GROUP, INTRA]], tail)?;
         ends(&rt, alloc, &ended, Status::Done, 1, "")?;
+    }
+    Ok(())
+}
+
+// Where the record of the first frame tells its flags, and how many zero bytes stand behind the slices and behind an end
+// code: each byte of the sheet is four low pairs of Cr samples in a row.
+const FLAGS: usize = 15_886;
+
+const ZEROS: usize = 16_470;
+
+const ZEROS_BEHIND_END: usize = 16_662;
+
+fn told_at(file: &[u8], place: usize) -> Option<u8> {
+    let samples = file.get(place..)?;
+    let (first, second) = (samples.first()? & 3, samples.get(2)? & 3);
+    let (third, fourth) = (samples.get(4)? & 3, samples.get(6)? & 3);
+    Some(first << 6 | second << 4 | third << 2 | fourth)
+}
+
+#[test]
+fn a_record_tells_what_stands_behind_a_picture(rt: HostRuntime) -> Result<(), Fail> {
+    let alloc = rt.alloc();
+    let words = words(alloc, &["decode", "a"])?;
+    let after_end = Status::Unit(1, Why::AfterEnd);
+    let cases: [(&[u8], Status, [u8; 3]); 5] = [
+        (&[], Status::Done, [0x01, 0, 0]),
+        (&[0, 0, 0], Status::Done, [0x01, 3, 0]),
+        (&[0, 0, 1, 0xB7], Status::Done, [0x11, 0, 0]),
+        (&[0, 0, 1, 0xB7, 0, 0], Status::Done, [0x11, 0, 2]),
+        (&[0, 0, 1, 0xB7, 0, 0, 1], after_end, [0x11, 0, 2]),
+    ];
+    for (behind, status, [flags, zeros, zeros_behind_end]) in cases {
+        let bytes = stream(alloc, &[&[SEQUENCE, GROUP, INTRA]], behind)?;
+        let mut shelf = CleanShelf::new(inputs(alloc, &bytes)?);
+        let mut out = MemSink::with_room(alloc, 20_000)?;
+        let mut say = MemSink::with_room(alloc, 40)?;
+        assert_eq!(rt; run(alloc, &words, &mut shelf, &mut out, &mut say), status);
+        assert_eq!(rt; out.bytes().len(), 18_478);
+        assert_eq!(rt; told_at(out.bytes(), FLAGS), Some(flags));
+        assert_eq!(rt; told_at(out.bytes(), ZEROS), Some(zeros));
+        assert_eq!(rt;
+            told_at(out.bytes(), ZEROS_BEHIND_END),
+            Some(zeros_behind_end)
+        );
     }
     Ok(())
 }
@@ -251,7 +311,7 @@ fn a_refused_header_names_its_unit(rt: HostRuntime) -> Result<(), Fail> {
 // The first part of a stream: a grey I picture, and one whose luma samples are 192.
 const OPENING: [(&[&[u8]], &[u8]); 2] = [(&[SEQUENCE, GROUP, INTRA], SLICE), (&[INTRA], BRIGHT)];
 
-// `decode a` of these bytes ends with this status, the frames of these luma samples and this line.
+// `decode a` of these bytes ends with this status, the frames of these luma samples, but for their records, and this line.
 fn shows(
     rt: &impl Abort,
     alloc: Global,
@@ -265,7 +325,8 @@ fn shows(
     let mut say = MemSink::with_room(alloc, 40)?;
     let words = words(alloc, &["decode", "a"])?;
     assert_eq!(rt; run(alloc, &words, &mut shelf, &mut out, &mut say), status);
-    assert_eq!(rt; out.bytes(), flat_frames(alloc, lumas)?.as_slice());
+    let plain = without_records(alloc, out.bytes())?;
+    assert_eq!(rt; plain.as_slice(), flat_frames(alloc, lumas)?.as_slice());
     assert_eq!(rt; say.bytes(), line.as_bytes());
     Ok(())
 }
@@ -372,7 +433,8 @@ fn pieces_of_any_length_give_the_same_frames(rt: HostRuntime) -> Result<(), Fail
         let mut say = MemSink::with_room(alloc, 40)?;
         let status = run(alloc, &words, &mut shelf, &mut out, &mut say);
         assert_eq!(rt; status, Status::Done);
-        assert_eq!(rt; out.bytes(), file.as_slice());
+        let plain = without_records(alloc, out.bytes())?;
+        assert_eq!(rt; plain.as_slice(), file.as_slice());
     }
     Ok(())
 }
@@ -496,7 +558,8 @@ fn faults_of_endpoints_leave_a_front_of_the_frames(rt: HostRuntime) -> Result<()
         let mut say = MemSink::with_room(alloc, 40)?;
         let words = words(alloc, &["decode", name])?;
         assert_eq!(rt; run(alloc, &words, &mut shelf, &mut out, &mut say), status);
-        assert_eq!(rt; Some(out.bytes()), file.get(..arrives));
+        let plain = without_records(alloc, out.bytes())?;
+        assert_eq!(rt; Some(plain.as_slice()), file.get(..arrives));
         assert_eq!(rt; say.bytes(), line.as_bytes());
     }
     Ok(())
@@ -517,7 +580,8 @@ fn a_failing_write_ends_the_output_there(rt: HostRuntime) -> Result<(), Fail> {
         assert_eq!(rt; status, Status::WriteFault);
         let arrived = out.bytes().len();
         assert!(rt; call == 0 || before < arrived);
-        assert_eq!(rt; Some(out.bytes()), file.get(..arrived));
+        let plain = without_records(alloc, out.bytes())?;
+        assert_eq!(rt; Some(plain.as_slice()), file.get(..arrived));
         before = arrived;
     }
     assert_eq!(rt; before, 46);
