@@ -97,12 +97,16 @@ fn row_of(block: &[i16; 64], row: usize) -> [i16; 8] {
     line
 }
 
-fn add_line(sums: &mut [i32; 64], v: usize, line: &[i16; 8]) {
+fn add_line(sums: &mut [i32; 32], v: usize, line: &[i16; 8]) {
     if line.iter().all(|value| *value == 0) {
         return;
     }
-    let line = inverse_of_line(line);
-    for y in 0..8 {
+    add_row(sums, v, &inverse_of_line(line));
+}
+
+#[inline(never)]
+fn add_row(sums: &mut [i32; 32], v: usize, line: &[i32; 8]) {
+    for y in 0..4 {
         let weight = i32::from(BY_FREQUENCY[v][y]);
         for x in 0..8 {
             sums[8 * y + x] += weight * line[x];
@@ -110,10 +114,10 @@ fn add_line(sums: &mut [i32; 64], v: usize, line: &[i16; 8]) {
     }
 }
 
-fn sums_of_last_row(line: &[i16; 8]) -> [i32; 64] {
-    let mut sums = [0; 64];
+fn sums_of_last_row(line: &[i16; 8]) -> [i32; 32] {
+    let mut sums = [0; 32];
     if *line == [0, 0, 0, 0, 0, 0, 0, 1] {
-        for k in 0..64 {
+        for k in 0..32 {
             sums[k] = i32::from(BY_FREQUENCY[7][k / 8]) * i32::from(BY_FREQUENCY[7][k % 8]);
         }
     } else {
@@ -122,11 +126,36 @@ fn sums_of_last_row(line: &[i16; 8]) -> [i32; 64] {
     sums
 }
 
-fn inverse_of_sparse(c: &[i16; 64], others: &[i16; 64]) -> [i16; 64] {
-    let mut sums = sums_of_last_row(&row_of(others, 7));
-    for v in 0..7 {
-        add_line(&mut sums, v, &row_of(others, v));
+fn sums_of_even_rows(block: &[i16; 64]) -> [i32; 32] {
+    let mut sums = [0; 32];
+    for k in 0..4 {
+        add_line(&mut sums, 2 * k, &row_of(block, 2 * k));
     }
+    sums
+}
+
+fn sums_of_odd_rows(block: &[i16; 64]) -> [i32; 32] {
+    let mut sums = sums_of_last_row(&row_of(block, 7));
+    for k in 0..3 {
+        add_line(&mut sums, 2 * k + 1, &row_of(block, 2 * k + 1));
+    }
+    sums
+}
+
+fn unfolded(even: &[i32; 32], odd: &[i32; 32]) -> [i32; 64] {
+    let mut sums = [0; 64];
+    for y in 0..4 {
+        for x in 0..8 {
+            let (e, o) = (even[8 * y + x], odd[8 * y + x]);
+            sums[8 * y + x] = e + o;
+            sums[8 * (7 - y) + x] = e - o;
+        }
+    }
+    sums
+}
+
+fn inverse_of_sparse(c: &[i16; 64], others: &[i16; 64]) -> [i16; 64] {
+    let sums = unfolded(&sums_of_even_rows(others), &sums_of_odd_rows(others));
     let whole = 8_386_816 * i64::from(c[0]) + 0x200_0000;
     let high = (whole >> 26) as i32;
     let low = (whole - 0x400_0000 * i64::from(high)) as i32;
