@@ -96,6 +96,15 @@ nearest_found kind samples prediction differences coefs nearest levels result is
     from : IsFound kind levels (entry prediction) (sample_at samples) → IsTrue result
     from h = decides.1 (ext_get_or (pos 0) nearest levels (long ∙ sym levels_long) (at h))
 
+pub close_found : (kind : Kind) (samples : List ℕ) (prediction differences coefs levels : List ℤ)
+    → ((y x : ℕ) → y < 8 → x < 8 → entry differences y x ≡ pos (sample_at samples y x) -ℤ entry prediction y x)
+    → ((v u : ℕ) → v < 8 → u < 8 → entry coefs v u ≡ forward_at (entry differences) v u)
+    → ((v u : ℕ) → v < 8 → u < 8 → nearest_level kind v u (entry coefs v u) ≡ entry levels v u)
+    → IsFound kind levels (entry prediction) (sample_at samples)
+close_found kind samples prediction differences coefs levels is_difference is_forward is_level v u p q =
+    sym (ap (nearest_level kind v u) (is_forward v u p q ∙ forward_of_same (entry differences) (λ y x. pos (sample_at samples y x) -ℤ entry prediction y x) is_difference v u))
+    ∙ is_level v u p q
+
 pub holds_samples : (prediction : List ℤ) → AreSamples (entry prediction) → HoldsSamples prediction
 holds_samples prediction h k lt =
     let e : 8 * (k / 8) + k % 8 ≡ k = omega arith in

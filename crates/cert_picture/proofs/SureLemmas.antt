@@ -1,5 +1,5 @@
 -- When the levels of a decoded block are the nearest ones again.
-use Rattle.std.proofs.Common.{◌≡◌, ◌≢◌, ◌∙◌, ℕ, zero, suc, ◌+◌, ◌*◌, ◌/◌, ◌^◌, ◌<◌, ◌≤◌, ◌-◌, min, max, ltb, Bool, true, false, ◌&&◌, nat_eq, List, ℤ, pos, negsuc, neg_ℤ, ◌+ℤ◌, ◌-ℤ◌, ◌*ℤ◌, ◌≤ℤ◌, ◌<ℤ◌, unsigned_abs, refl, sym, ap, subst, arith, add-one}
+use Rattle.std.proofs.Common.{◌≡◌, ◌≢◌, ◌∙◌, ℕ, zero, suc, ◌+◌, ◌*◌, ◌/◌, ◌^◌, ◌<◌, ◌≤◌, ◌-◌, min, max, ltb, Bool, true, false, ◌&&◌, nat_eq, List, ℤ, pos, negsuc, neg_ℤ, ◌+ℤ◌, ◌-ℤ◌, ◌*ℤ◌, ◌≤ℤ◌, ◌<ℤ◌, unsigned_abs, refl, sym, ap, arith, add-one}
 use Rattle.std.specs.Prelude.{slice_index}
 use Rattle.std.specs.Int.{int_shr}
 use Rattle.std.proofs.lemmas.Int.{ints}
@@ -59,13 +59,13 @@ near_first (suc (suc zero)) size c value multiplier h top v m near = dc_size_2 c
 near_first (suc (suc (suc zero))) size c value multiplier h top v m near = dc_size_3 c ∙ omega (arith, near, top, v, m)
 near_first (suc (suc (suc (suc p)))) size c value multiplier h top v m near = absurd (omega (arith, h))
 
-pub first_is_near : (precision size sum multiplier widened coefficient high low : ℕ) → precision ≤ 3 → multiplier ≡ 8 / 2 ^ precision → widened ≡ size → coefficient ≡ first_coefficient sum
-    → high ≡ max (multiplier * widened) coefficient → low ≡ min (multiplier * widened) coefficient → ltb (2 * (high - low)) multiplier ≡ true → size < 2 ^ (8 + precision) → dc_size precision (first_coefficient sum) ≡ size
-first_is_near precision size sum multiplier widened coefficient high low h m w c hi lo near top =
+pub first_is_near : (precision size coefficient multiplier widened high low : ℕ) → precision ≤ 3 → multiplier ≡ 8 / 2 ^ precision → widened ≡ size
+    → high ≡ max (multiplier * widened) coefficient → low ≡ min (multiplier * widened) coefficient → ltb (2 * (high - low)) multiplier ≡ true → size < 2 ^ (8 + precision) → dc_size precision coefficient ≡ size
+first_is_near precision size coefficient multiplier widened high low h m w hi lo near top =
     let value : multiplier * widened ≡ 8 / 2 ^ precision * size = rw (m, w) refl in
     let close = ltb-true (2 * (high - low)) multiplier near in
     let closer : 2 * (max (multiplier * widened) coefficient - min (multiplier * widened) coefficient) < multiplier = rw (← hi, ← lo) close in
-    subst (λ (k : ℕ). dc_size precision k ≡ size) c (near_first precision size coefficient (multiplier * widened) multiplier h top value m closer)
+    near_first precision size coefficient (multiplier * widened) multiplier h top value m closer
 
 -- ---- the other levels
 
@@ -96,7 +96,7 @@ fits a s m step n h below small top =
     let more : (2 * m + 1) * s ≤ (2 * n + 1) * step = mul-le-mul (omega (arith, small)) below in
     omega (arith, h, more, below, top)
 
-not_first : (kind : Kind) (v u : ℕ) → is_first_of_intra kind v u ≡ false → kind.intra ≡ true → 8 * v + u ≢ 0
+pub not_first : (kind : Kind) (v u : ℕ) → is_first_of_intra kind v u ≡ false → kind.intra ≡ true → 8 * v + u ≢ 0
 not_first kind v u other intra none =
     let a : v ≡ 0 = omega (arith, none) in
     let b : u ≡ 0 = omega (arith, none) in
@@ -123,14 +123,24 @@ stand_alone kind step size above apart top v u hv hu other level legal small =
 
 -- ---- a block
 
-natural : (z : ℤ) (top : ℕ) → pos 0 ≤ℤ z → z <ℤ pos top → (unsigned_abs z < top) × (z ≡ pos (unsigned_abs z))
+pub natural : (z : ℤ) (top : ℕ) → pos 0 ≤ℤ z → z <ℤ pos top → (unsigned_abs z < top) × (z ≡ pos (unsigned_abs z))
 natural z top h k = (omega (arith, ints, h, k), omega (arith, ints, h, k))
 
-zeros_of : (intra : Bool) (v u : ℕ) → (intra && (nat_eq v 0 && nat_eq u 0)) ≡ true → (v ≡ 0) × (u ≡ 0)
+pub zeros_of : (intra : Bool) (v u : ℕ) → (intra && (nat_eq v 0 && nat_eq u 0)) ≡ true → (v ≡ 0) × (u ≡ 0)
 zeros_of true zero zero h = (refl, refl)
 zeros_of true zero (suc u) h = absurd (grind (arith, nat_tests))
 zeros_of true (suc v) u h = absurd (grind (arith, nat_tests))
 zeros_of false v u h = absurd cc
+
+-- the first level of an intra block whose size is the nearest one
+pub first_is_level : (kind : Kind) (level : ℤ) (size c : ℕ) → kind.intra ≡ true → kind.dc_precision ≤ 3 → size ≡ unsigned_abs level → (size < 2 ^ (8 + kind.dc_precision) → dc_size kind.dc_precision c ≡ size)
+    → (pos 0 ≤ℤ level) × (level <ℤ pos (2 ^ (8 + kind.dc_precision))) → nearest_level kind 0 0 (pos c) ≡ level
+first_is_level kind level size c intra precision size_is same d =
+    let n = natural level (2 ^ (8 + kind.dc_precision)) d.0 d.1 in
+    let is : is_first_of_intra kind 0 0 ≡ true = rw intra refl in
+    sym (dc_is kind 0 0 (pos c) (pos (dc_size kind.dc_precision c)) is (dc_of_positive kind.dc_precision c precision))
+    ∙ ap pos (same (rw size_is n.0) ∙ size_is)
+    ∙ sym n.1
 
 module _ (samples : List ℕ) (levels : List ℤ) (kind : Kind) (size : ℕ) (alone : StandAlone kind size) (present : is_absent kind levels ≡ false)
     (uncut : (k : ℕ) → k < 64 → (0 < slice_index samples k) × (slice_index samples k < 255)) (small : AreUpTo kind.intra levels size) where
@@ -154,14 +164,7 @@ module _ (samples : List ℕ) (levels : List ℤ) (kind : Kind) (size : ℕ) (al
         let f : ℕ → ℕ → ℤ = λ y x. pos (sample_at samples y x) -ℤ prediction y x in
         let sum = sum_of_block samples f (λ y x p q. rw (from.intra intra y x p q) (omega (arith, ints))) in
         let coefficient : forward_at f 0 0 ≡ pos c = first_is_sum f ∙ first_of_sum (total_of samples) (sum_below 8 (λ y. sum_below 8 (f y))) sum in
-        let d = from.dc intra in
-        let n = natural (item levels 0) (2 ^ (8 + kind.dc_precision)) d.0 d.1 in
-        let is : is_first_of_intra kind 0 0 ≡ true = rw intra refl in
-        let level : pos (dc_size kind.dc_precision c) ≡ nearest_level kind 0 0 (pos c) = dc_is kind 0 0 (pos c) (pos (dc_size kind.dc_precision c)) is (dc_of_positive kind.dc_precision c precision) in
-        ap (nearest_level kind 0 0) coefficient
-        ∙ sym level
-        ∙ ap pos (same (rw first_is n.0) ∙ first_is)
-        ∙ sym n.1
+        ap (nearest_level kind 0 0) coefficient ∙ first_is_level kind (item levels 0) first c intra precision first_is same (from.dc intra)
 
     pub intra_stays : StaysFound kind levels (sample_at samples)
     intra_stays prediction from v u hv hu = by (is_first_of_intra kind v u) refl

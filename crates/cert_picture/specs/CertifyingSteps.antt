@@ -18,6 +18,7 @@ use Rattle.mv_predict.specs.Blocks.{HasSizeOf}
 use Rattle.mv_predict.specs.Prediction.{predicted_at}
 use Rattle.mv_quant.specs.declared.Kind.{Kind}
 use Rattle.mv_quant.specs.Dequantised.{is_first_of_intra, step_at}
+use Rattle.mv_quant.specs.Nearest.{distance}
 use Rattle.mv_recon.specs.Pictures.{picture_from}
 use Rattle.mv_slices.specs.Canonical.{canonical_slices, canonical_tail}
 use Rattle.mv_vectors.specs.Predictable.{AllCanBeReconstructed}
@@ -93,6 +94,16 @@ StandAlone kind size = (v u : ℕ) → v < 8 → u < 8 → is_first_of_intra kin
 abbrev pub AreUpTo : Bool → List ℤ → ℕ → Type 0
 AreUpTo intra levels size = (k : ℕ) → k < 64 → (intra ≡ true → k ≢ 0)
     → unsigned_abs (item levels k) ≤ size
+
+-- by how much mismatch control may have changed the value at a place
+abbrev pub change_at : ℕ → ℕ
+change_at k = if k == 63 then 1 else 0
+
+-- a value lies so close to a coefficient that its level is the nearest one
+abbrev pub IsClose : Kind → ℕ → ℤ → ℤ → Type 0
+IsClose kind k value coefficient =
+    (2 * (distance value coefficient + change_at k) < step_at kind k / 16)
+    × (unsigned_abs value + change_at k + step_at kind k / 16 ≤ 2047)
 
 -- the sum of a block of samples, and the first coefficient of samples with this sum
 abbrev pub total_of : List ℕ → ℕ

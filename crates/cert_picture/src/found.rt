@@ -1,12 +1,14 @@
 //! The samples of a block of a picture, and whether levels are the nearest ones to what they have beyond a prediction.
-ghost use Rattle.std.specs.Prelude.{◌≡◌, ◌↔◌, ℕ, ◌+◌, ◌*◌, ◌^◌, ◌<◌, ◌≤◌, All, IsTrue, pos, ◌-ℤ◌, ◌≤ℤ◌, unsigned_abs};
-ghost use Rattle.mv_terms.specs.Block.{entry, IsWithin};
+ghost use Rattle.std.specs.Prelude.{◌≡◌, ◌↔◌, ℕ, ◌+◌, ◌*◌, ◌^◌, ◌<◌, ◌≤◌, All, IsTrue, true, pos, ◌-ℤ◌, ◌≤ℤ◌, unsigned_abs};
+ghost use Rattle.mv_terms.specs.Block.{item, entry, IsWithin};
+ghost use Rattle.mv_terms.specs.Ranges.{IsLevel, IsDcLevel};
 ghost use Rattle.mv_planes.specs.Lent.{read_part, read_picture};
 ghost use Rattle.mv_planes.specs.Layout.{part_at};
 ghost use Rattle.cert_requant.specs.Requantised.{plane_of};
 ghost use Rattle.cert_requant.specs.Steps.{HoldsSamples};
 ghost use Rattle.cert_picture.specs.CertifyingSteps.{IsFound, block_samples, sample_at};
 
+use crate::close::are_close;
 use mv_planes::{Block8, Picture, Plane};
 use mv_quant::{Kind, nearest};
 use mv_transform::forward;
@@ -28,8 +30,10 @@ pub(crate) fn samples_of(
 {
     let block = block_in(picture, field_dct, mb_x, mb_y, b);
     let mut samples = [0; 64];
-    for k in 0..64 {
-        samples[k] = block.get(k / 8, k % 8);
+    'rows: for row in 0..8 {
+        'columns: for col in 0..8 {
+            samples[8 * row + col] = block.get(row, col);
+        }
     }
     samples
 }
@@ -67,10 +71,16 @@ pub(crate) fn are_nearest(
     requires precision { kind.now.dc_precision ≤ 3 }
     requires matrix { All (λ w. 0 < w) kind.now.matrix }
     requires prediction { HoldsSamples prediction.now }
+    requires legal { (k : ℕ) → k < 64 → IsLevel (item levels.now k) }
+    requires dc { kind.now.intra ≡ true → IsDcLevel kind.now.dc_precision (item levels.now 0) }
     ensures { IsTrue result
         ↔ IsFound kind.now levels.now (entry prediction.now) (sample_at samples.now) }
 {
-    nearest(&forward(&differences(samples, prediction)), kind) == *levels
+    let coefs = forward(&differences(samples, prediction));
+    if are_close(&coefs, levels, kind) {
+        return true;
+    }
+    nearest(&coefs, kind) == *levels
 }
 
 fn differences(samples: &[u8; 64], prediction: &[i16; 64]) -> [i16; 64]

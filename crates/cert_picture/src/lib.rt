@@ -9,6 +9,7 @@
 #![tactic(auto)]
 
 mod certifying;
+mod close;
 mod found;
 mod frame;
 mod laws;

@@ -33,9 +33,12 @@ fn are_zero(levels: &[i16; 64]) -> bool
 pub(crate) fn size_alone(kind: &Kind) -> Option<u16>
     ensures { ForSome result (StandAlone kind.now) }
 {
+    if !are_apart(kind) {
+        return None;
+    }
     let step = greatest_step(kind);
     // the least size is that of level 0
-    if step > 21834 || !are_apart(kind) {
+    if step > 21834 {
         return None;
     }
     Some(size_within(step))
@@ -73,7 +76,8 @@ fn greatest_step(kind: &Kind) -> u32
     greatest
 }
 
-fn step_at(kind: &Kind, k: usize) -> u32
+/// The step of the place k: the entry of the matrix times the scale.
+pub(crate) fn step_at(kind: &Kind, k: usize) -> u32
     requires { k < 64 }
     ensures value { result ≡ step_at kind.now k }
     ensures small { result ≤ 65025 }
@@ -104,7 +108,8 @@ pub(crate) fn surely_stay(samples: &[u8; 64], levels: &[i16; 64], kind: &Kind, s
     if !kind.intra {
         return true;
     }
-    is_first(first_size(levels), sum_of(samples), kind.dc_precision)
+    let coefficient = first_coefficient(sum_of(samples));
+    is_first(first_size(levels), coefficient, kind.dc_precision)
 }
 
 // Whether no sample is 0 or 255.
@@ -132,22 +137,22 @@ fn are_up_to(levels: &[i16; 64], intra: bool, size: u16) -> bool
     greatest <= size
 }
 
-fn first_size(levels: &[i16; 64]) -> u16
+/// The size of the first level.
+pub(crate) fn first_size(levels: &[i16; 64]) -> u16
     ensures { result ≡ unsigned_abs (item levels.now 0) }
 {
     levels[0].unsigned_abs()
 }
 
-// Whether the first coefficient of samples with this sum lies nearest to the first level of an intra block of this size.
-fn is_first(size: u16, sum: u32, precision: u8) -> bool
+/// Whether a first coefficient lies nearest to the first level of an intra block of this size.
+pub(crate) fn is_first(size: u16, coefficient: u32, precision: u8) -> bool
     requires precision { precision ≤ 3 }
-    requires sum { sum ≤ 16320 }
+    requires coefficient { coefficient ≤ 2 ^ 15 }
     ensures { IsTrue result → size < 2 ^ (8 + precision)
-        → dc_size precision (first_coefficient sum) ≡ size }
+        → dc_size precision coefficient ≡ size }
 {
     let multiplier = multiplier_of(precision);
     let value = multiplier * u32::from(size);
-    let coefficient = first_coefficient(sum);
     2 * (value.max(coefficient) - value.min(coefficient)) < multiplier
 }
 

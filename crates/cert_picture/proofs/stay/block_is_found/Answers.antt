@@ -13,6 +13,12 @@ returns-then-is_absent c = (
 pub are_nearest-requires-clause-prediction : goal.are_nearest-requires-clause-prediction
 are_nearest-requires-clause-prediction c = holds_samples c.args.prediction.now c.requires.decoded.predicted
 
+pub are_nearest-requires-clause-legal : goal.are_nearest-requires-clause-legal
+are_nearest-requires-clause-legal c = c.requires.decoded.legal
+
+pub are_nearest-requires-clause-dc : goal.are_nearest-requires-clause-dc
+are_nearest-requires-clause-dc c = c.requires.decoded.dc
+
 pub returns : goal.returns
 returns c =
     let kind = c.args.kind.now in
