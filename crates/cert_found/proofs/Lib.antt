@@ -1,0 +1,6 @@
+mod RangeLaws
+mod HeadLaws
+mod HistoryLaws
+mod HeldLaws
+mod LinkLaws
+mod FoundLaws
