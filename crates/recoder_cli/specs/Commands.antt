@@ -1,8 +1,9 @@
 -- A command of the code as a form of words.
-use Rattle.recoder_cli.specs.Words.{Form, decode, cut}
+use Rattle.recoder_cli.specs.Words.{Form, decode, cut, recode}
 use Rattle.recoder_cli.specs.declared.words.Command.{Command}
-use Rattle.recoder_cli.specs.declared.words.Command.TheVariants.{Decode, Cut}
+use Rattle.recoder_cli.specs.declared.words.Command.TheVariants.{Decode, Cut, Recode}
 
 abbrev pub form_given : Command → Form
 form_given (Decode name) = decode name.now
 form_given (Cut list) = cut list.now
+form_given (Recode name scale) = recode name.now scale

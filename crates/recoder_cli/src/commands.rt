@@ -6,11 +6,13 @@ ghost use Rattle.mv_ends.specs.Shelves.{KeepsShelf};
 ghost use Rattle.mv_ends.specs.Ends.{Ends, Outcome};
 ghost use Rattle.mv_ends.specs.Endings.{ending_of};
 ghost use Rattle.recoder_cli.specs.Commands.{form_given};
+ghost use Rattle.recoder_cli.specs.Words.{IsLegal};
 ghost use Rattle.recoder_cli.specs.Outcomes.{FailsToOpen, FailsToRead, FailsToWrite, IsDoneOver, IsOutcomeOf, IsStatusOf, LacksMemory};
 
 use crate::words::Command;
 use cut_list::cut_job;
 use job_decode::decode_job;
+use job_recode::{FreshCoder, recode_job};
 use mv_ends::{Shelf, Sink};
 use mv_terms::Status;
 use std::alloc::Global;
@@ -22,10 +24,12 @@ pub fn perform<S: Shelf, O: Sink>(
     shelf: &mut S,
     out: &mut O,
 ) -> Status
+    requires { IsLegal (form_given command.now) }
     ensures ends { ForSome (S.named shelf.old) (λ inputs.
         (outcome : Outcome Status) × IsOutcomeOf (form_given command.now) inputs outcome
         × Ends outcome (ending_of result) (O.written out.old) (O.written out.new)) }
-    ensures done { result ≡ Status.Done → IsDoneOver (form_given command.now) (S.rest shelf.new) }
+    ensures done { result ≡ Status.Done → IsDoneOver (form_given command.now)
+        (S.named shelf.old) (S.rest shelf.new) }
     ensures kind { IsStatusOf (form_given command.now) result }
     ensures form { result ≢ Status.Words }
     ensures open_fault { result ≡ Status.OpenFault
@@ -51,5 +55,8 @@ pub fn perform<S: Shelf, O: Sink>(
     match command {
         Command::Decode(name) => decode_job(alloc, name, shelf, out),
         Command::Cut(list) => cut_job(alloc, list, shelf, out),
+        Command::Recode(name, scale) => {
+            recode_job::<_, _, FreshCoder>(alloc, name, *scale, shelf, out)
+        }
     }
 }

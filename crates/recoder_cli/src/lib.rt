@@ -64,7 +64,8 @@ pub fn run<S: Shelf, O: Sink, M: Sink>(
         → (outcome : Outcome Status) × IsOutcomeOf form inputs outcome
         × IsComplete outcome result (O.written out.old) (O.written out.new))) }
     ensures done { result ≡ Status.Done
-        → ForSome (form_of (texts words.now)) (λ form. IsDoneOver form (S.rest shelf.new)) }
+        → ForSome (form_of (texts words.now)) (λ form.
+        IsDoneOver form (S.named shelf.old) (S.rest shelf.new)) }
 
     // The words alone decide whether they are of no form, and then nothing is written. Otherwise only statuses of the
     // command come.

@@ -1,5 +1,6 @@
 //! Runs over endpoints in memory: what each stream gives, and what stands where an endpoint fails.
 mod cut;
+mod recode;
 
 use crate::{run, run_clean};
 use mv_ends::{CleanShelf, CleanSink, MemShelf, MemSink, Shelf};
@@ -608,12 +609,16 @@ fn a_fault_of_what_is_said_changes_no_status(rt: HostRuntime) -> Result<(), Fail
 #[test]
 fn other_words_have_no_form(rt: HostRuntime) -> Result<(), Fail> {
     let alloc = rt.alloc();
-    let cases: [&[&str]; 6] = [
+    let cases: [&[&str]; 10] = [
         &[],
         &["decode"],
         &["decode", ""],
         &["decode", "a", "a"],
-        &["recode", "a"],
+        &["decode", "a", "q=8"],
+        &["recode", "", "q=8"],
+        &["recode", "a", "8"],
+        &["recode", "a", "q=0"],
+        &["recode", "a", "q=32"],
         &["Decode", "a"],
     ];
     for texts in cases {

@@ -9,8 +9,8 @@ use Rattle.recoder_cli.proofs.run.Goals.{in-None, in-Some}
 
 pub returns-clause-ends : goal.returns-clause-ends
 returns-clause-ends g c form is inputs told = elim c.match-parse.branch [
-  | in-None w ↦ no_form (form_of (texts c.args.words.now)) form is w.in-None.ensures
+  | in-None w ↦ no_form (form_of (texts c.args.words.now)) form is w.in-None.ensures.form
   | in-Some w ↦ rw (w.status-is, w.out-is)
       (same_form (λ form. (outcome : Outcome Status) × IsOutcomeOf form inputs outcome × Ends outcome (ending_of w.perform-status.result) (g.O.Sink.written c.args.out.now) (g.O.Sink.written w.perform-status.new.out))
-      (form_of (texts c.args.words.now)) form _ is w.in-Some.ensures (w.perform-status.ensures.ends inputs told))
+      (form_of (texts c.args.words.now)) form _ is w.in-Some.ensures.form (w.perform-status.ensures.ends inputs told))
 ]

@@ -1,6 +1,9 @@
 use Rattle.std.proofs.Common.{rules, refl}
+use Rattle.mv_ends.specs.Moves.{input_of}
 use Rattle.cut_list.specs.Cut.{cut_outcome}
-use Rattle.recoder_cli.proofs.Fails.{decode_fails_to_read, decode_fails_to_write, decode_lacks_memory}
+use Rattle.job_recode.specs.Outcome.{outcome_of}
+use Rattle.job_recode.specs.Fresh.{fresh_coding}
+use Rattle.recoder_cli.proofs.Fails.{decode_fails_to_read, decode_fails_to_write, decode_lacks_memory, recode_fails_to_read, recode_fails_to_write}
 use Rattle.recoder_cli.proofs.commands.perform.Goals as goal
 
 pub returns-in-Decode-clause-read_fault : goal.returns-in-Decode-clause-read_fault
@@ -14,3 +17,12 @@ returns-in-Decode-clause-no_memory g c = λ wants. decode_lacks_memory _ c.in-De
 
 pub returns-in-Cut-clause-ends : goal.returns-in-Cut-clause-ends
 returns-in-Cut-clause-ends g c = rw c.in-Cut.is (λ inputs told. (cut_outcome inputs c.in-Cut.list.now, refl, c.cut_job.ensures.ends inputs told))
+
+pub returns-in-Recode-clause-ends : goal.returns-in-Recode-clause-ends
+returns-in-Recode-clause-ends g c = rw c.in-Recode.is (λ inputs told. (outcome_of (fresh_coding c.in-Recode.scale) (input_of inputs c.in-Recode.name.now), refl, c.recode_job.ensures.ends inputs told))
+
+pub returns-in-Recode-clause-read_fault : goal.returns-in-Recode-clause-read_fault
+returns-in-Recode-clause-read_fault g c = λ fault. recode_fails_to_read _ _ _ _ _ _ _ _ _ (search rules) (c.recode_job.ensures.read_fault fault) (c.recode_job.ensures.settled fault)
+
+pub returns-in-Recode-clause-unwritten : goal.returns-in-Recode-clause-unwritten
+returns-in-Recode-clause-unwritten g c = λ fault. recode_fails_to_write _ _ _ _ _ _ _ (search rules) (c.recode_job.ensures.reads_ahead fault)
