@@ -16,7 +16,7 @@ use Rattle.mv_store.specs.Stored.{HasCommitted, IsOfSize}
 use Rattle.mv_units.specs.Profile.{CodedUnit}
 use Rattle.mv_decode.specs.declared.decoder.Decoder.{Decoder}
 use Rattle.mv_decode.specs.Units.{pictures_in}
-use Rattle.mv_decode.specs.Stands.{CanBeCoded, HasAccepted, IsLent, LendsLegal, picture_lent}
+use Rattle.mv_decode.specs.Stands.{CanBeCoded, HasAccepted, IsLent, LendsLegal}
 use Rattle.mv_decode.proofs.PictureLemmas.{AreOfSize, decoded_size, sized}
 use Rattle.mv_decode.proofs.DecodeLaws.{committed_as}
 
@@ -33,6 +33,14 @@ refs_sized pic.B mb_wide mb_high store picture before c =
 of_head : (head lent : Head) (f g : Planes) → lent ≡ head → g ≡ f → IsOfSize head.mb_wide head.mb_high f → HasSizeOf lent g
 of_head head lent f g same is size =
     subst (λ (h : Head). HasSizeOf h g) (sym same) (subst (λ (x : Planes). HasSizeOf head x) (sym is) (record { wide = size.wide; high = size.high }))
+
+-- what is lent, as a coded picture
+abbrev pub picture_lent : Coded → CodedPicture
+picture_lent coded = record {
+  head = coded.head.now;
+  decisions = coded.decisions.now;
+  levels = coded.levels.now;
+}
 
 pub same_picture : (coded : Coded) (picture : CodedPicture) → coded.head.now ≡ picture.head → coded.decisions.now ≡ picture.decisions → coded.levels.now ≡ picture.levels → picture_lent coded ≡ picture
 same_picture coded picture a b c =

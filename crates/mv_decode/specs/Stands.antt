@@ -80,17 +80,13 @@ pub record IsLent (coded : Coded) (u : CodedUnit) (before : List CodedUnit) : Ty
   pub refs : references_lent coded.refs ≡ references_behind (pictures_in before) u.picture
   pub extended : coded.extended ≡ u.accepted.heads.in_force.extended
 
--- the picture that is lent, as it is coded
-abbrev pub picture_lent : Coded → CodedPicture
-picture_lent coded = record {
-  head = coded.head.now;
-  decisions = coded.decisions.now;
-  levels = coded.levels.now;
-}
-
 -- What is lent can be coded again, and the picture that it decodes to and the references have its size.
 pub record LendsLegal (coded : Coded) : Type 0 where
-  pub legal : CanBeCoded (picture_lent coded)
+  pub legal : CanBeCoded (record {
+    head = coded.head.now;
+    decisions = coded.decisions.now;
+    levels = coded.levels.now;
+  })
   pub picture : HasSizeOf coded.head.now coded.picture.now
   pub forward : HasSizeOf coded.head.now coded.refs.forward.now
   pub backward : HasSizeOf coded.head.now coded.refs.backward.now
