@@ -1,23 +1,18 @@
 -- What is lent for a frame: what it is made from, and room for its record.
 use Rattle.std.specs.Prelude.{◌≡◌, ℕ, ◌*◌, length}
-use Rattle.mv_terms.specs.CodedPicture.{CodedPicture}
 use Rattle.mv_terms.specs.UnitLists.{lent_unit}
 use Rattle.mv_planes.specs.declared.coded.Coded.{Coded}
 use Rattle.mv_planes.specs.References.{references_lent}
 use Rattle.cert_picture.specs.declared.frame.FrameRoom.{FrameRoom}
 use Rattle.cert_picture.specs.declared.frame.StreamParts.{StreamParts}
+use Rattle.cert_picture.specs.Certifying.{coded_lent}
 use Rattle.cert_picture.specs.Records.{FrameParts}
-
--- the picture that is lent, as it is coded
-abbrev pub lent_picture : Coded → CodedPicture
-lent_picture coded =
-    record { head = coded.head.now; decisions = coded.decisions.now; levels = coded.levels.now }
 
 -- what a frame is made from
 abbrev pub lent_parts : Coded → StreamParts → FrameParts
 lent_parts coded stream = record {
   lists = lent_unit stream.unit;
-  picture = lent_picture coded;
+  picture = coded_lent coded;
   context = stream.context.now;
   extended = coded.extended;
   decoded = coded.picture.now;
