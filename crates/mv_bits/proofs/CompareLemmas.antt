@@ -1,9 +1,9 @@
 -- The steps of a comparison.
-use Rattle.std.proofs.Common.{◌≡◌, ◌≢◌, ℕ, zero, suc, ◌-◌, ◌<◌, Bool, true, false, eqb, List, [], ◌∷◌, length, get_or, take, drop, refl, sym, ap, ◌∙◌, subst, arith, append_assoc, ◌↔◌}
+use Rattle.std.proofs.Common.{◌≡◌, ◌≢◌, ℕ, zero, suc, ◌-◌, ◌<◌, Bool, true, false, not, eqb, List, [], ◌∷◌, ◌++◌, length, get_or, take, drop, refl, sym, ap, ◌∙◌, subst, arith, append_assoc, ◌↔◌}
 use Rattle.std.proofs.lemmas.Bool.Decides.{nat_tests}
 use Rattle.std.proofs.lemmas.List.{append-nil, take_all}
 use Rattle.mv_bits.specs.Zeros.{zero_bytes}
-use Rattle.mv_bits.specs.Receivers.{HasPut, Compared, compared, Matches, Comparison, Awaits, Compares}
+use Rattle.mv_bits.specs.Receivers.{HasPut, TakesAnything, Compared, compared, Matches, Comparison, Awaits, Compares}
 
 abbrev comparison : Bool → List ℕ → ℕ → Comparison
 comparison agrees rest zeros = record { agrees = agrees; left = compared rest zeros }
@@ -145,3 +145,17 @@ module _ (agrees is_empty : Bool) (rest : List ℕ) (z : ℕ) (now : Comparison)
   equal_else f with_these put stands =
       let is = equal_is agrees rest z now view with_these put stands in
       ((λ t. absurd (let e : false ≡ true = sym f ∙ t in cc)), (λ m. (is.1 m).0))
+
+-- where a byte differed nothing is awaited, whatever comes
+module _ (agrees : Bool) (rest : List ℕ) (z : ℕ) (now : Comparison) (view : comparison agrees rest z ≡ now) where
+  awaits_nothing : not agrees ≡ true → (more : List ℕ) → Awaits now more → ⊥
+  awaits_nothing f more a = let t : now.agrees ≡ true = a.0 in differed agrees (ap (λ (c : Comparison). c.agrees) view ∙ t) f
+    where
+      differed : (b : Bool) → b ≡ true → not b ≡ true → ⊥
+      differed true e n = let f : false ≡ true = n in cc
+      differed false e n = cc
+
+  pub takes_anything : not agrees ≡ true → TakesAnything Compares now
+  takes_anything f bytes kind before stands more =
+      let same = append_assoc before bytes more in
+      ((λ m. absurd (awaits_nothing f (bytes ++ more) ((stands (bytes ++ more)).0 (subst (Matches kind) same m)))), (λ a. absurd (awaits_nothing f more a)))

@@ -1,9 +1,9 @@
 -- Bits that were put, part by part.
-use Rattle.std.proofs.Common.{◌≡◌, ℕ, zero, suc, ◌+◌, ◌-◌, ◌*◌, ◌/◌, ◌%◌, ◌^◌, ◌<◌, ◌≤◌, Bool, false, List, [], ◌∷◌, ◌++◌, length, replicate, refl, ap, sym, ◌∙◌, subst, arith, append_assoc, add-zero}
+use Rattle.std.proofs.Common.{◌≡◌, ℕ, zero, suc, ◌+◌, ◌-◌, ◌*◌, ◌/◌, ◌%◌, ◌^◌, ◌<◌, ◌≤◌, Bool, true, false, List, [], ◌∷◌, ◌++◌, length, replicate, refl, ap, sym, ◌∙◌, subst, arith, append_assoc, add-zero}
 use Rattle.std.proofs.lemmas.List.{append-nil}
 use Rattle.std.proofs.lemmas.Nat.{pow-add, mod_low, shr_high, shl_whole, mul-add-lt, shr_below, one_shl, mod_below, pow_pos}
 use Rattle.std.proofs.Math.Nat.{zero-div}
-use Rattle.mv_bits.specs.Bits.{digits, bits_of}
+use Rattle.mv_bits.specs.Bits.{digits, bits_of, worth}
 use Rattle.mv_bits.specs.Receivers.{HasPut}
 use Rattle.mv_bits.specs.Writing.{AreBytes, Writes, padding}
 use Rattle.mv_bits.proofs.BitLaws.{length-digits}
@@ -17,6 +17,11 @@ bits_of-append (x ∷ xs) ys = rw (bits_of-append xs ys) (sym (append_assoc (dig
 pub AreBytes-append : (xs ys : List ℕ) → AreBytes xs → AreBytes ys → AreBytes (xs ++ ys)
 AreBytes-append [] ys h k = k
 AreBytes-append (x ∷ xs) ys h k = (h.0, AreBytes-append xs ys h.1 k)
+
+flag_digits : (flag : Bool) → digits 1 (worth flag) ≡ flag ∷ []
+unfolding digits
+flag_digits true = refl
+flag_digits false = refl
 
 module _ {P Kind : Type 0} (stands : P → Kind → List ℕ → Type 0) where
   pub Writes-none : (p : P) (pending : List Bool) → Writes stands p p pending pending []
@@ -66,6 +71,10 @@ module _ {P Kind : Type 0} (stands : P → Kind → List ℕ → Type 0) where
   Writes-byte p q r xs count bits some most v h small =
       let k : count ≡ 8 + (count - 8) = omega arith in
       rw (one_shl (count - 8) 64 (omega arith)) (byte_more p q r xs (count - 8) bits (subst (λ (n : ℕ). Writes stands p q [] (digits n bits) xs) k v) h small)
+
+  -- a field of one bit is the bit
+  pub flag_put : (p q : P) (a b : List Bool) (flag : Bool) (n : ℕ) → n ≡ worth flag → Writes stands p q a b (digits 1 n) → Writes stands p q a b (flag ∷ [])
+  flag_put p q a b flag n e w = subst (λ (xs : List Bool). Writes stands p q a b xs) (ap (digits 1) e ∙ flag_digits flag) w
 
   -- whole bytes leave nothing
   pub all_put : (p q : P) (left count : ℕ) (xs : List Bool) → count ≡ 0 → Writes stands p q [] (digits count left) xs → Writes stands p q [] [] xs

@@ -8,6 +8,10 @@ abbrev pub HasPut : {P Kind : Type 0} → (P → Kind → List ℕ → Type 0) �
 HasPut {P} {Kind} stands old new bytes =
     (kind : Kind) (before : List ℕ) → stands old kind before → stands new kind (before ++ bytes)
 
+-- Nothing that is put from here on changes what the receiver stands for, of whatever kind it is.
+abbrev pub TakesAnything : {P Kind : Type 0} → (P → Kind → List ℕ → Type 0) → P → Type 0
+TakesAnything stands receiver = (bytes : List ℕ) → HasPut stands receiver receiver bytes
+
 -- ROOM: how many bytes it takes, and those that it keeps.
 pub record Kept : Type 0 where
   pub room : ℕ

@@ -67,4 +67,9 @@ impl<'a> Put for CompareWith<'a> {
             }
         }
     }
+
+    /// A byte differed.
+    fn is_settled(&self) -> bool {
+        !self.agrees
+    }
 }

@@ -1,6 +1,6 @@
 //! Receivers of bytes.
-ghost use Rattle.std.specs.Prelude.{◌∷◌, [], List, ℕ};
-ghost use Rattle.mv_bits.specs.Receivers.{HasPut};
+ghost use Rattle.std.specs.Prelude.{◌∷◌, [], IsTrue, List, ℕ};
+ghost use Rattle.mv_bits.specs.Receivers.{HasPut, TakesAnything};
 
 /// Takes bytes one by one, without an answer and without memory.
 ///
@@ -14,4 +14,8 @@ pub trait Put {
     /// Takes one byte.
     fn put_byte(&mut self, byte: u8)
         ensures { HasPut stands self.old self.new (byte ∷ []) };
+
+    /// Whether nothing that is put from here on changes what it stands for. Where it says no, something may.
+    fn is_settled(&self) -> bool
+        ensures { IsTrue result → TakesAnything stands self.now };
 }

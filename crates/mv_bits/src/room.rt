@@ -67,4 +67,9 @@ impl Put for Room {
             self.kept = at + 1;
         }
     }
+
+    /// It is full.
+    fn is_settled(&self) -> bool {
+        self.kept == self.bytes.len()
+    }
 }

@@ -1,6 +1,6 @@
 //! Bits that are put into a receiver of bytes.
-ghost use Rattle.std.specs.Prelude.{◌≡◌, ◌<◌, ◌≤◌, ◌%◌, ◌^◌, [], length};
-ghost use Rattle.mv_bits.specs.Bits.{digits};
+ghost use Rattle.std.specs.Prelude.{◌≡◌, ◌<◌, ◌≤◌, ◌%◌, ◌^◌, ◌∷◌, [], length};
+ghost use Rattle.mv_bits.specs.Bits.{digits, worth};
 ghost use Rattle.mv_bits.specs.Writing.{Writes, padding};
 
 use crate::put::Put;
@@ -28,7 +28,7 @@ impl Model for BitWriter {
 }
 
 impl BitWriter {
-    ghost use Rattle.std.specs.Prelude.{◌≡◌, ◌<◌, ◌≤◌, ◌^◌, [], length};
+    ghost use Rattle.std.specs.Prelude.{◌≡◌, ◌<◌, ◌≤◌, ◌^◌, ◌∷◌, [], length};
     ghost use Rattle.mv_bits.specs.Bits.{digits};
     ghost use Rattle.mv_bits.specs.Writing.{Writes, padding};
 
@@ -56,6 +56,13 @@ impl BitWriter {
         self.count = count;
     }
 
+    /// Puts one bit.
+    pub fn put_flag<P: Put>(&mut self, flag: bool, to: &mut P)
+        ensures { Writes P.stands to.old to.new self.old self.new (flag ∷ []) }
+    {
+        self.put(bit(flag), 1, to);
+    }
+
     /// Puts zero bits up to the end of the byte.
     pub fn align<P: Put>(&mut self, to: &mut P)
         ensures written { Writes P.stands to.old to.new self.old self.new (padding self.old) }
@@ -66,6 +73,14 @@ impl BitWriter {
         self.pending = pending;
         self.count = count;
     }
+}
+
+/// A bit as the number that it is worth, to be put as a field of one bit.
+pub fn bit(flag: bool) -> u32
+    ensures value { result ≡ worth flag }
+    ensures bound { result < 2 }
+{
+    u32::from(flag)
 }
 
 /// Puts the first 32 of so many bits, where there are as many, and answers the bits that are left and how many these
