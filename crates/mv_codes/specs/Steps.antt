@@ -1,4 +1,4 @@
--- What the writers' inner steps say of their lists of codes.
+-- What the writers' inner steps say of their lists of codes. Nobody needs to believe it: it only carries proofs.
 use Rattle.std.specs.Prelude.{ℕ, ◌+◌, ◌-◌, ◌*◌, ◌^◌, ◌<◌, ◌≤◌, ◌==◌, ◌&&◌, not, nat_lt, nat_le, Bool, List, [], ◌∷◌, ◌++◌, length, get_or, replicate, ℤ}
 use Rattle.mv_bits.specs.Bits.{worth, digits}
 use Rattle.mv_codes.specs.Spelled.{twos_12}

@@ -98,7 +98,7 @@ fn motion_place(v: i8) -> usize
     (v as i32 + 16) as usize
 }
 
-fn bit(flag: bool) -> usize
+fn flag_place(flag: bool) -> usize
     ensures value { result ≡ worth flag }
     ensures bound { result ≤ 1 }
 {
@@ -108,7 +108,11 @@ fn bit(flag: bool) -> usize
 fn flags_place(v: TypeBits) -> usize
     ensures { result ≡ flags_place v }
 {
-    bit(v.quant) + 2 * bit(v.forward) + 4 * bit(v.backward) + 8 * bit(v.pattern) + 16 * bit(v.intra)
+    flag_place(v.quant)
+        + 2 * flag_place(v.forward)
+        + 4 * flag_place(v.backward)
+        + 8 * flag_place(v.pattern)
+        + 16 * flag_place(v.intra)
 }
 
 /// Table B.1 by the step, the escape at place 0.
