@@ -1,4 +1,4 @@
--- The contracts of inner steps: sizes of levels and of their values.
+-- The contracts of inner steps: sizes of levels and of their values. Nobody needs to believe these: they only carry proofs.
 use Rattle.std.specs.Prelude.{◌≡◌, ℕ, zero, suc, ◌+◌, ◌-◌, ◌*◌, ◌/◌, ◌^◌, ◌<◌, ◌≤◌, Bool, true, false, if◌then◌else◌, ◌⊎◌, List, length, map, ℤ, pos, negsuc, ◌*ℤ◌, ◌≤ℤ◌, min, unsigned_abs}
 use Rattle.std.specs.List.{range_with_len}
 use Rattle.mv_terms.specs.Block.{item}
