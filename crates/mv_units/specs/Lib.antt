@@ -1,4 +1,3 @@
-pub mod Gaps
 pub mod Profile
 pub mod Shape
 pub mod Steps
