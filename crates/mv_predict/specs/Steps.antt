@@ -1,5 +1,5 @@
--- What the steps of `predict` do: lines of samples in a picture's list, where they lie, and blocks made of them. It only
--- carries proofs; nobody needs to believe it.
+-- Nobody needs to believe it, it only carries proofs: what the steps of `predict` do, lines of samples in a picture's list,
+-- where they lie, and blocks made of them.
 use Rattle.std.specs.Prelude.{◌≡◌, ℕ, ◌+◌, ◌*◌, ◌/◌, ◌<◌, Bool, Option, None, Some, ℤ, pos, ◌+ℤ◌, ◌≤ℤ◌, unsigned_abs, List, [], length, slice_index, slice_index_or}
 use Rattle.mv_terms.specs.declared.macroblock.Decision.{Decision}
 use Rattle.mv_terms.specs.Block.{entry}
