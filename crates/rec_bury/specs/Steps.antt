@@ -1,4 +1,4 @@
--- How far a frame is written, taken out or hashed.
+-- How far a frame is written, taken out or hashed. Nobody needs to believe it: it only carries proofs.
 use Rattle.std.specs.Prelude.{◌≡◌, ℕ, ◌+◌, ◌-◌, ◌*◌, ◌/◌, ◌%◌, ◌^◌, ◌<◌, ◌&&◌, ◌==◌, Bool, List, length, slice_index}
 use Rattle.mv_planes.specs.declared.picture.Plane.TheVariants.{Cb}
 use Rattle.mv_planes.specs.Layout.{macroblock_of}
