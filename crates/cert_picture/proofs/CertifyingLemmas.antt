@@ -29,7 +29,7 @@ use Rattle.cert_requant.specs.Requantised.{requantised}
 use Rattle.cert_requant.proofs.RequantLaws.{requantised_can_be_coded}
 use Rattle.cert_picture.specs.Records.{FrameParts, returns_slices}
 use Rattle.cert_picture.specs.Certifying.{coded_lent}
-use Rattle.cert_picture.specs.CertifyingSteps.{are_canonical, WasDecoded}
+use Rattle.cert_picture.specs.Steps.{are_canonical, WasDecoded}
 use Rattle.cert_picture.proofs.ReconstructLemmas.{legal_can_be_reconstructed}
 
 trimmed : (bytes : List ℕ) → zeros_at_end bytes ≡ 0 → without_last_zeros bytes ≡ bytes

@@ -9,7 +9,7 @@ use Rattle.mv_quant.specs.Dequantised.{value_of, value_sum, is_even, toggled, de
 use Rattle.mv_quant.specs.Nearest.{nearest_level}
 use Rattle.mv_quant.specs.Steps.{dc_size}
 use Rattle.mv_quant.proofs.CloseLemmas.{close_is_nearest}
-use Rattle.cert_picture.specs.CertifyingSteps.{IsClose, change_at}
+use Rattle.cert_picture.specs.Steps.{IsClose, change_at}
 use Rattle.cert_picture.proofs.SureLemmas.{not_first, natural, zeros_of, first_is_level}
 
 -- ---- mismatch control changes the last value alone

@@ -19,7 +19,7 @@ use Rattle.mv_recon.proofs.ResidualLemmas.{zero_of}
 use Rattle.cert_requant.specs.Stays.{AreSamples, found_level}
 use Rattle.cert_requant.specs.Steps.{HoldsSamples}
 use Rattle.cert_requant.proofs.StaysLaws.{absent_stays}
-use Rattle.cert_picture.specs.CertifyingSteps.{IsDecodedFrom, IsFound, StaysFound, sample_at}
+use Rattle.cert_picture.specs.Steps.{IsDecodedFrom, IsFound, StaysFound, sample_at}
 
 -- ---- samples and predictions that agree within the block
 

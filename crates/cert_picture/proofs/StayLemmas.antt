@@ -35,7 +35,7 @@ use Rattle.cert_requant.specs.Requantised.{plane_of, block_part, difference_at, 
 use Rattle.cert_requant.proofs.MadeLemmas.{in_block, macroblock_is, by_place, picture_is}
 use Rattle.cert_requant.proofs.SampleLemmas.{predicted_sample, has_plane}
 use Rattle.cert_picture.specs.Certifying.{coded_lent}
-use Rattle.cert_picture.specs.CertifyingSteps.{sample_in, block_samples, predicted_in, IsDecodedFrom, IsFound, StaysFound, WasDecoded, HasByteReferences, MacroblockStays}
+use Rattle.cert_picture.specs.Steps.{sample_in, block_samples, predicted_in, IsDecodedFrom, IsFound, StaysFound, WasDecoded, HasByteReferences, MacroblockStays}
 use Rattle.cert_picture.proofs.FoundLemmas.{found_like, from_like}
 
 -- ---- the samples of a decoded picture

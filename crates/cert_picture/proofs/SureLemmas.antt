@@ -21,7 +21,7 @@ use Rattle.mv_quant.proofs.SignLemmas.{value_pos, value_neg}
 use Rattle.mv_quant.proofs.NearestLemmas.{value_scaled, dc_is, dc_of_positive, dc_size_0, dc_size_1, dc_size_2, dc_size_3}
 use Rattle.cert_requant.specs.Stays.{reach, found_level}
 use Rattle.cert_requant.proofs.StaysLaws.{present_stays}
-use Rattle.cert_picture.specs.CertifyingSteps.{reach_at, AreApart, AreUpTo, StandAlone, StaysFound, IsDecodedFrom, first_coefficient, sample_at, total_of}
+use Rattle.cert_picture.specs.Steps.{reach_at, AreApart, AreUpTo, StandAlone, StaysFound, IsDecodedFrom, first_coefficient, sample_at, total_of}
 
 -- ---- sums
 

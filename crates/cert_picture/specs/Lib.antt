@@ -3,4 +3,4 @@ pub mod Lent
 pub mod FrameFileOf
 pub mod RecordLaws
 pub mod Certifying
-pub mod CertifyingSteps
+pub mod Steps

@@ -11,7 +11,7 @@ ghost use Rattle.mv_slices.specs.CanonicalLaws.{IsLegalPicture};
 ghost use Rattle.mv_slices.specs.Slices.{Slices};
 ghost use Rattle.cert_picture.specs.Records.{FrameParts, returns_slices};
 ghost use Rattle.cert_picture.specs.Certifying.{IsMadeFrom, coded_lent};
-ghost use Rattle.cert_picture.specs.CertifyingSteps.{are_canonical};
+ghost use Rattle.cert_picture.specs.Steps.{are_canonical};
 
 use crate::stay::levels_stay;
 use cert_requant::requantise;
@@ -67,7 +67,8 @@ pub fn certify_decoded(coded: &Coded<'_>, slices: &[u8], zeros: u64) -> bool
     are_canonical(coded.head, coded.decisions, coded.levels, slices, zeros)
 }
 
-// Whether the canonical slices of legal decisions and levels are these, with a tail of at most so many zero bytes.
+/// Whether the canonical slices of legal decisions and levels are these, with a tail of at most so many zero bytes. They are
+/// compared slice by slice, up to the first one that differs.
 fn are_canonical(
     head: &Head,
     decisions: &[Decision],

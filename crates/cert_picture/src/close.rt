@@ -4,7 +4,7 @@ ghost use Rattle.mv_terms.specs.Block.{item, entry};
 ghost use Rattle.mv_terms.specs.Ranges.{IsLevel, IsDcLevel};
 ghost use Rattle.mv_quant.specs.Nearest.{distance, nearest_level};
 ghost use Rattle.mv_quant.specs.Steps.{dc_size};
-ghost use Rattle.cert_picture.specs.CertifyingSteps.{IsClose, change_at};
+ghost use Rattle.cert_picture.specs.Steps.{IsClose, change_at};
 
 use crate::sure::{first_size, is_first, step_at};
 use mv_quant::{Kind, dequantise};

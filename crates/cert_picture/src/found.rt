@@ -6,7 +6,7 @@ ghost use Rattle.mv_planes.specs.Lent.{read_part, read_picture};
 ghost use Rattle.mv_planes.specs.Layout.{part_at};
 ghost use Rattle.cert_requant.specs.Requantised.{plane_of};
 ghost use Rattle.cert_requant.specs.Steps.{HoldsSamples};
-ghost use Rattle.cert_picture.specs.CertifyingSteps.{IsFound, block_samples, sample_at};
+ghost use Rattle.cert_picture.specs.Steps.{IsFound, block_samples, sample_at};
 
 use crate::close::are_close;
 use mv_planes::{Block8, Picture, Plane};

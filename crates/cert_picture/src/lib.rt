@@ -5,7 +5,7 @@
 //! `specs/Records.antt` defines them. The frame file that the units of a stream decode to is `frame_file_of` in
 //! `specs/FrameFileOf.antt`, and what of it may be written as its units come is `due` there; the laws say how the two
 //! are joined, and what the record of a frame tells (`specs/RecordLaws.antt`). What is lent for a frame stands in
-//! `specs/Lent.antt`; `CertifyingSteps` only carries proofs.
+//! `specs/Lent.antt`; `Steps` only carries proofs.
 #![tactic(auto)]
 
 mod certifying;

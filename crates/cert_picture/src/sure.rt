@@ -7,7 +7,7 @@ ghost use Rattle.mv_terms.specs.Sums.{total_below};
 ghost use Rattle.mv_quant.specs.Dequantised.{step_at};
 ghost use Rattle.mv_quant.specs.Macroblocks.{is_absent};
 ghost use Rattle.mv_quant.specs.Steps.{dc_size};
-ghost use Rattle.cert_picture.specs.CertifyingSteps.{AreApart, AreUpTo, IsApart, StandAlone, StaysFound, first_coefficient, sample_at, total_of};
+ghost use Rattle.cert_picture.specs.Steps.{AreApart, AreUpTo, IsApart, StandAlone, StaysFound, first_coefficient, sample_at, total_of};
 
 use mv_quant::Kind;
 

@@ -2,7 +2,7 @@ use Rattle.std.proofs.Common.{List, ap, sym, subst, ◌∙◌}
 use Rattle.mv_terms.specs.declared.macroblock.MacroLevels.{MacroLevels}
 use Rattle.mv_planes.specs.References.{references_lent}
 use Rattle.mv_slices.specs.CanonicalLaws.{IsLegalPicture}
-use Rattle.cert_picture.specs.CertifyingSteps.{are_canonical}
+use Rattle.cert_picture.specs.Steps.{are_canonical}
 use Rattle.cert_picture.proofs.CertifyingLemmas.{same_answer, nearest_is_legal}
 use Rattle.cert_picture.proofs.ReconstructLemmas.{legal_can_be_reconstructed}
 use Rattle.cert_picture.proofs.certifying.certify.Goals as goal

@@ -2,7 +2,7 @@ use Rattle.std.proofs.Common.{List, ap, sym, ◌∙◌}
 use Rattle.mv_terms.specs.declared.macroblock.MacroLevels.{MacroLevels}
 use Rattle.mv_planes.specs.References.{references_lent}
 use Rattle.cert_requant.specs.Requantised.{requantised}
-use Rattle.cert_picture.specs.CertifyingSteps.{are_canonical}
+use Rattle.cert_picture.specs.Steps.{are_canonical}
 use Rattle.cert_picture.proofs.CertifyingLemmas.{same_answer, nearest_is_legal, others_differ, read_is_legal, was_decoded}
 use Rattle.cert_picture.proofs.certifying.certify_decoded.Goals as goal
 

@@ -1,7 +1,7 @@
 use Rattle.std.proofs.Common.{◌<◌, ℕ}
 use Rattle.std.specs.Prelude.{IsTrue}
 use Rattle.mv_terms.specs.Block.{item}
-use Rattle.cert_picture.specs.CertifyingSteps.{IsClose}
+use Rattle.cert_picture.specs.Steps.{IsClose}
 use Rattle.cert_picture.proofs.close.others_are_close.Given as goal
 
 abbrev pub invariant-loop-k : goal.invariant-loop-k

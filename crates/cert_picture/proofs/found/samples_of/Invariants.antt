@@ -1,6 +1,6 @@
 use Rattle.std.proofs.Common.{◌≡◌, ◌<◌, ◌+◌, ◌*◌, ℕ, length}
 use Rattle.mv_planes.specs.Lent.{read_part, read_picture}
-use Rattle.cert_picture.specs.CertifyingSteps.{sample_at, sample_in}
+use Rattle.cert_picture.specs.Steps.{sample_at, sample_in}
 use Rattle.cert_picture.proofs.found.samples_of.Given as goal
 
 abbrev pub invariant-rows : goal.invariant-rows

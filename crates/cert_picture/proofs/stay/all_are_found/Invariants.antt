@@ -2,7 +2,7 @@ use Rattle.std.proofs.Common.{◌<◌, ℕ, []}
 use Rattle.std.specs.Prelude.{slice_index_or}
 use Rattle.mv_terms.specs.Block.{entry}
 use Rattle.mv_terms.specs.Decisions.{block}
-use Rattle.cert_picture.specs.CertifyingSteps.{IsFound, block_samples}
+use Rattle.cert_picture.specs.Steps.{IsFound, block_samples}
 use Rattle.cert_picture.proofs.stay.all_are_found.Given as goal
 
 abbrev pub invariant-each : goal.invariant-each

@@ -1,6 +1,6 @@
 use Rattle.std.proofs.Common.{ℕ, below_more}
 use Rattle.mv_terms.specs.Decisions.{block}
-use Rattle.cert_picture.specs.CertifyingSteps.{StaysFound, block_samples}
+use Rattle.cert_picture.specs.Steps.{StaysFound, block_samples}
 use Rattle.cert_picture.proofs.stay.all_surely_stay.Goals as goal
 
 pub each-preserved : goal.each-preserved

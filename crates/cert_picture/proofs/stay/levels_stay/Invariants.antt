@@ -1,5 +1,5 @@
 use Rattle.std.proofs.Common.{◌<◌, ◌+◌, ◌*◌, ℕ}
-use Rattle.cert_picture.specs.CertifyingSteps.{MacroblockStays}
+use Rattle.cert_picture.specs.Steps.{MacroblockStays}
 use Rattle.cert_picture.proofs.stay.levels_stay.Given as goal
 
 abbrev pub invariant-rows : goal.invariant-rows

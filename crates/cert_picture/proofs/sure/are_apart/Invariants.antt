@@ -1,5 +1,5 @@
 use Rattle.std.proofs.Common.{◌≡◌, ◌≢◌, ◌<◌, ℕ, true}
-use Rattle.cert_picture.specs.CertifyingSteps.{IsApart}
+use Rattle.cert_picture.specs.Steps.{IsApart}
 use Rattle.cert_picture.proofs.sure.are_apart.Given as goal
 
 abbrev pub invariant-loop-k : goal.invariant-loop-k

@@ -1,6 +1,6 @@
 use Rattle.std.proofs.Common.{◌≡◌, ◌≤◌, ◌*◌}
 use Rattle.mv_terms.specs.Sums.{total_below}
-use Rattle.cert_picture.specs.CertifyingSteps.{sample_at}
+use Rattle.cert_picture.specs.Steps.{sample_at}
 use Rattle.cert_picture.proofs.sure.row_sum.Given as goal
 
 abbrev pub invariant-loop-x : goal.invariant-loop-x

@@ -1,5 +1,5 @@
 use Rattle.std.proofs.Common.{◌≡◌, subst}
-use Rattle.cert_picture.specs.CertifyingSteps.{StandAlone}
+use Rattle.cert_picture.specs.Steps.{StandAlone}
 use Rattle.cert_picture.proofs.SureLemmas.{stand_alone}
 use Rattle.cert_picture.proofs.sure.size_alone.Goals as goal
 

@@ -1,6 +1,6 @@
 use Rattle.std.proofs.Common.{◌+◌, sym, ap, ◌∙◌, arith}
 use Rattle.mv_terms.specs.Sums.{total_below}
-use Rattle.cert_picture.specs.CertifyingSteps.{sample_at}
+use Rattle.cert_picture.specs.Steps.{sample_at}
 use Rattle.cert_picture.proofs.SureLemmas.{total_none, total_more}
 use Rattle.cert_picture.proofs.sure.sum_of.Goals as goal
 

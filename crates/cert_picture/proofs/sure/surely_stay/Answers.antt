@@ -1,6 +1,6 @@
 use Rattle.std.proofs.Common.{◌≡◌, ◌∙◌, ℕ, ap, subst}
 use Rattle.mv_quant.specs.Steps.{dc_size}
-use Rattle.cert_picture.specs.CertifyingSteps.{first_coefficient}
+use Rattle.cert_picture.specs.Steps.{first_coefficient}
 use Rattle.cert_picture.proofs.SureLemmas.{inter_stays, intra_stays}
 use Rattle.cert_picture.proofs.sure.surely_stay.Goals as goal
 
