@@ -5,7 +5,7 @@ use Rattle.std.specs.Option.{option_map_or}
 use Rattle.plan_window.specs.declared.summary.Summary.{Summary}
 use Rattle.plan_window.specs.Links.{is_anchor_record}
 use Rattle.plan_window.specs.Plan.{is_plan_anchor}
-use Rattle.plan_window.specs.NextAnchor.{distance_from, next_distance}
+use Rattle.plan_window.specs.Steps.{distance_from, next_distance}
 use Rattle.plan_window.specs.Stands.{NoAnchor}
 use Rattle.plan_window.proofs.ListLemmas.{suffix, or_false, drop_get}
 

@@ -9,7 +9,7 @@ use Rattle.plan_window.specs.declared.summary.Step.{Step}
 use Rattle.plan_window.specs.Links.{mode_by}
 use Rattle.plan_window.specs.Plan.{is_plan_anchor, anchors_before, first_anchor, nearest_before, anchor_of_group, step_at, group_before, coding_order}
 use Rattle.plan_window.specs.State.{WindowState, IsHeld, without_front, behind_anchor, in_group}
-use Rattle.plan_window.specs.NextAnchor.{next_distance}
+use Rattle.plan_window.specs.Steps.{next_distance}
 use Rattle.plan_window.specs.Stands.{Between, Within, Reaches, MayFollow, StandsFor, StandsAt}
 use Rattle.plan_window.proofs.ListLemmas.{drop_more, get-drop, get-first, take_seen}
 use Rattle.plan_window.proofs.OrderLemmas.{clear_anchors, clear_order, first_at, group_length}

@@ -1,6 +1,6 @@
 pub mod Links
 pub mod Plan
-pub mod NextAnchor
+pub mod Steps
 pub mod State
 pub mod Stands
 pub mod Fields

@@ -1,7 +1,7 @@
 //! The summaries of 17 frames at most, and the steps of the plan as soon as these show them.
 ghost use Rattle.std.specs.Prelude.{◌≡◌, ⊤, ℕ, ◌⊎◌, ◌↔◌, ◌+◌, ◌-◌, ◌<◌, ◌≤◌, ◌^◌, [], ◌∷◌, ◌++◌, List, true, false, length, slice_get, IsTrue, IfOk, MatchOption};
 ghost use Rattle.plan_window.specs.Plan.{ahead, is_plan_anchor, group_before};
-ghost use Rattle.plan_window.specs.NextAnchor.{next_distance};
+ghost use Rattle.plan_window.specs.Steps.{next_distance};
 ghost use Rattle.plan_window.specs.State.{count_pushed, steps_left, without_front};
 ghost use Rattle.plan_window.specs.Stands.{MayFollow, StandsFor, StandsAt};
 

@@ -1,7 +1,7 @@
 use Rattle.std.proofs.Common.{rules, ◌≡◌, true, false, Some, None, slice_get, cond, sym, ap, ◌∙◌, arith}
 use Rattle.plan_window.specs.Links.{is_anchor_record}
 use Rattle.plan_window.specs.State.{WindowState}
-use Rattle.plan_window.specs.NextAnchor.{next_distance}
+use Rattle.plan_window.specs.Steps.{next_distance}
 use Rattle.plan_window.proofs.NextLemmas.{distance_here, distance_next, get_past}
 use Rattle.plan_window.proofs.window.Window.next_distance.Goals.{in-Some+else-is_anchor, in_default}
 use Rattle.plan_window.proofs.window.Window.next_distance.Goals as goal

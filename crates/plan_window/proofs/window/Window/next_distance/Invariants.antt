@@ -1,5 +1,5 @@
 use Rattle.std.proofs.Common.{◌≡◌, drop}
-use Rattle.plan_window.specs.NextAnchor.{distance_from, next_distance}
+use Rattle.plan_window.specs.Steps.{distance_from, next_distance}
 use Rattle.plan_window.proofs.window.Window.next_distance.Given as goal
 
 abbrev pub invariant-loop-distance : goal.invariant-loop-distance

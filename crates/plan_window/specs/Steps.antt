@@ -1,4 +1,4 @@
--- How far the next anchor is among the summaries that a window holds.
+-- Nobody needs to believe it, it only carries proofs: how far the next anchor is among the summaries that a window holds.
 use Rattle.std.specs.Prelude.{ℕ, suc, if◌then◌else◌, List, [], ◌∷◌}
 use Rattle.plan_window.specs.declared.summary.Summary.{Summary}
 use Rattle.plan_window.specs.Links.{is_anchor_record}
