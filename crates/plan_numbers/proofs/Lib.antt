@@ -1,0 +1,4 @@
+mod ListLemmas
+mod CountLemmas
+mod KeptLemmas
+mod NumberLemmas
