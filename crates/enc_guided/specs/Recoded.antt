@@ -72,14 +72,14 @@ abbrev pub pictures_of_steps : List CodedStep → List DecodedPicture
 pictures_of_steps steps = map (λ s. s.decoded) steps
 
 -- the anchor that was coded last
-abbrev pub last_anchor : List CodedStep → Option CodedStep
-last_anchor before = first (filter (λ s. s.anchor) before)
+abbrev pub anchor_before : List CodedStep → Option CodedStep
+anchor_before before = first (filter (λ s. s.anchor) before)
 
 -- ---- the sequence part
 
 -- the sequence part in force: that of the anchor that was coded last
 abbrev pub in_force : List CodedStep → Option Target
-in_force before = option_map (λ s. s.target) (last_anchor before)
+in_force before = option_map (λ s. s.target) (anchor_before before)
 
 -- its bytes, none where none is in force
 abbrev pub bytes_in_force : List CodedStep → List ℕ
@@ -125,7 +125,7 @@ abbrev pub fresh_temporal : Bool → ℕ → List CodedStep → ℕ
 fresh_temporal anchor frame before =
     if anchor then group_size frame before % 1024
     else option_map_or (λ a. (a.coded.head.temporal + 1024 - (a.frame - frame)) % 1024)
-    (last_anchor before) 0
+    (anchor_before before) 0
 
 -- an anchor begins a group of pictures
 abbrev pub fresh_prefix : Bool → ℕ → List CodedStep → List ℕ

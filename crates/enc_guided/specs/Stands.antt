@@ -1,5 +1,5 @@
 -- What a recoder stands for: the steps that it coded, the last one first.
-use Rattle.std.specs.Prelude.{◌≡◌, ℕ, ◌*◌, ◌^◌, ◌<◌, ◌≤◌, List, [], ◌∷◌, length, map, if◌then◌else◌, Option, None, Some, option_map}
+use Rattle.std.specs.Prelude.{◌≡◌, ℕ, ◌*◌, ◌^◌, ◌<◌, ◌≤◌, List, [], ◌∷◌, length, map, if◌then◌else◌, Option, None, Some, option_map, IfSome, ⊤}
 use Rattle.std.specs.Option.{option_map_or}
 use Rattle.mv_terms.specs.declared.frame_header.FrameHeader.{FrameHeader}
 use Rattle.mv_terms.specs.Ranges.{IsContext, IsFrameHeader, IsScaleCode, macroblock_columns, macroblock_rows}
@@ -7,13 +7,17 @@ use Rattle.mv_bits.specs.Receivers.{Kept, KeepsFirst}
 use Rattle.mv_store.specs.Stored.{HasCommitted, IsOfSize, StandsFor as IsStoreOf}
 use Rattle.rec_bury.specs.Exhumed.{HasTenBits}
 use Rattle.rec_legal.specs.FoundRecord.{FoundRecord}
-use Rattle.plan_window.specs.declared.summary.Summary.{Summary}
+use Rattle.rec_legal.specs.Conditions.{file_size}
+use Rattle.rec_reader.specs.declared.reader.Found.{Found}
+use Rattle.rec_reader.specs.Lent.{lent_found}
+use Rattle.rec_reader.specs.Right.{IsRight}
 use Rattle.plan_window.specs.declared.summary.Step.{Step}
-use Rattle.plan_window.specs.declared.summary.Mode.TheVariants.{Fresh}
+use Rattle.plan_window.specs.declared.summary.Mode.TheVariants.{Guided, Fresh}
 use Rattle.plan_window.specs.Fits.{Fits, Planned}
 use Rattle.enc_guided.specs.declared.front.Anchor.{Anchor}
 use Rattle.enc_guided.specs.declared.recoder.Recoder.{Recoder}
-use Rattle.enc_guided.specs.Recoded.{Recoding, FrameStep, CodedStep, coded_steps, pictures_of_steps, last_anchor, target_of, has_end}
+use Rattle.enc_guided.specs.FileSteps.{summary_in}
+use Rattle.enc_guided.specs.Recoded.{Recoding, FrameStep, CodedStep, coded_steps, pictures_of_steps, anchor_before, target_of, has_end}
 
 abbrev pub frame_step : Step → List ℕ → FrameStep
 frame_step step frame = record { step = step; frame = frame }
@@ -35,7 +39,7 @@ abbrev pub anchor_of : CodedStep → Anchor
 anchor_of s = record { frame = s.frame; temporal = s.coded.head.temporal }
 
 abbrev pub last_of : List CodedStep → Option Anchor
-last_of steps = option_map anchor_of (last_anchor steps)
+last_of steps = option_map anchor_of (anchor_before steps)
 
 abbrev pub HasLegalTemporal : Option Anchor → Type 0
 HasLegalTemporal None = Unit {0}
@@ -96,20 +100,37 @@ StandsFor recoder r steps = HasCoded recoder r (coded_steps r steps)
 -- ---- what a step asks
 
 -- a step, with what the plan knows of its frame
-abbrev pub planned_by : (List ℕ → Summary) → FrameStep → Planned
-planned_by summary s = record { step = s.step; summary = summary s.frame }
+abbrev pub planned_by : Recoding → FrameStep → Planned
+planned_by r s = record { step = s.step; summary = summary_in r s.frame }
 
--- it fits behind the steps before it, as the steps of a plan do, whatever the plan knows of the frames
-abbrev pub FitsBehind : List FrameStep → FrameStep → Type 0
-FitsBehind before s =
-    (summary : List ℕ → Summary)
-    × Fits (map (planned_by summary) before) (planned_by summary s)
-
--- A step of a frame without a record: two bytes for each 10-bit sample of its macroblocks.
-pub record IsFreshStep (r : Recoding) (before : List FrameStep) (s : FrameStep) : Type 0 where
-  pub mode : s.step.mode ≡ Fresh
-  pub none : r.find s.frame ≡ None
-  pub fits : FitsBehind before s
+-- A step of a plan with its frame, behind the steps before it: it fits there; what is found in the frame can be coded; and
+-- the frame has two bytes for each 10-bit sample of its macroblocks.
+pub record IsStep (r : Recoding) (before : List FrameStep) (s : FrameStep) : Type 0 where
+  pub fits : Fits (map (planned_by r) before) (planned_by r s)
+  pub right : IfSome (r.find s.frame) (IsRight (file_size r.header))
   pub size : length s.frame ≡ 768 * macroblocks_of r.header
   pub samples : HasTenBits s.frame
   pub few : length before < 2 ^ 44
+
+-- each of these steps, the last one first, behind those before it
+abbrev pub AreSteps : Recoding → List FrameStep → Type 0
+AreSteps r [] = ⊤
+AreSteps r (s ∷ before) = IsStep r before s × AreSteps r before
+
+-- This is what was found in the frame of a step, as it is lent.
+abbrev pub IsFoundIn : Recoding → FrameStep → Option Found → Type 0
+IsFoundIn r s found = r.find s.frame ≡ option_map lent_found found
+
+-- a step that is coded by the record of its frame
+pub record IsGuidedStep (r : Recoding) (before : List FrameStep) (s : FrameStep)
+    (found : Found) : Type 0 where
+  pub mode : s.step.mode ≡ Guided
+  pub found_is : IsFoundIn r s (Some found)
+  pub step : IsStep r before s
+
+-- a step that is coded anew, whether its frame has a record or not
+pub record IsFreshStep (r : Recoding) (before : List FrameStep) (s : FrameStep)
+    (found : Option Found) : Type 0 where
+  pub mode : s.step.mode ≡ Fresh
+  pub found_is : IsFoundIn r s found
+  pub step : IsStep r before s

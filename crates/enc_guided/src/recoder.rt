@@ -1,52 +1,51 @@
 //! The state of recoding, and its steps.
-ghost use Rattle.std.specs.Prelude.{◌≡◌, ◌^◌, ◌<◌, ◌≤◌, ◌*◌, List, [], ◌∷◌, ℕ, IfOk, None, Option};
+ghost use Rattle.std.specs.Prelude.{◌≡◌, List, [], ◌∷◌, ℕ, IfOk, Option};
 ghost use Rattle.mv_terms.specs.Ranges.{IsFrameHeader, IsScaleCode};
 ghost use Rattle.mv_ends.specs.Sends.{Sends};
 ghost use Rattle.rec_legal.specs.FoundRecord.{FoundRecord};
 ghost use Rattle.enc_guided.specs.Recoded.{Recoding, FrameStep, coded_step, coded_steps, ending_of};
-ghost use Rattle.enc_guided.specs.Stands.{IsFreshStep, StandsFor, frame_step};
-ghost use Rattle.enc_guided.specs.Steps.{CodesFresh, MayCode, kept_bytes};
+ghost use Rattle.enc_guided.specs.Stands.{IsFreshStep, IsGuidedStep, StandsFor, frame_step};
 
-use crate::front::{
-    Anchor, fresh_temporal, fresh_type, last_anchor, repeats_part, write_decisions, write_front,
-};
-use crate::picture::{code_picture, keep_slices, make_source};
-use enc_fresh::{default_context, fresh_head};
+use crate::front::Anchor;
+use crate::part::{context_under, is_sent_before, own_part};
+use enc_fresh::default_context;
 use enc_glue::send_zeros;
 use mv_bits::Room;
-use mv_ends::{Failed, Sink, send, send_all};
+use mv_ends::{Failed, Sink, send};
 use mv_heads::write_context;
 use mv_planes::Picture;
 use mv_store::RefStore;
 use mv_terms::{Context, Decision, FrameHeader, MacroLevels, NoMemory, PicType};
 use plan_window::Step;
+use rec_legal::coded_law;
+use rec_reader::Found;
 use std::alloc::Global;
 
 /// Codes the frames of a file, step by step of a plan.
 #[derive(Drop)]
 pub struct Recoder {
-    header: FrameHeader,
+    pub(crate) header: FrameHeader,
     /// The quantiser scale code of fresh pictures.
-    scale: u8,
+    pub(crate) scale: u8,
     /// The sequence part that a frame without one of its own is read under: that of the last anchor, or before the first
     /// one the default one.
-    part: Room,
-    context: Context,
-    store: RefStore,
+    pub(crate) part: Room,
+    pub(crate) context: Context,
+    pub(crate) store: RefStore,
     /// The type of the picture that was coded last.
-    pic: PicType,
-    source: Picture,
-    decisions: Vec<Decision>,
-    levels: Vec<MacroLevels>,
+    pub(crate) pic: PicType,
+    pub(crate) source: Picture,
+    pub(crate) decisions: Vec<Decision>,
+    pub(crate) levels: Vec<MacroLevels>,
     /// The prefix and the head of a fresh picture.
-    front: Room,
-    slices: Room,
+    pub(crate) front: Room,
+    pub(crate) slices: Room,
     /// How many steps were coded.
-    count: u64,
+    pub(crate) count: u64,
     /// The anchor that was coded last.
-    anchor: Option<Anchor>,
+    pub(crate) anchor: Option<Anchor>,
     /// How many zero bytes stand behind the end code of the last step, where its record has one.
-    end: Option<u64>,
+    pub(crate) end: Option<u64>,
 }
 
 /// A sequence part has at most so many bytes.
@@ -89,21 +88,58 @@ impl Recoder {
         })
     }
 
-    /// Codes a frame without a record anew, and writes what the step has in the stream. It stands for the step even where
-    /// writing failed.
-    pub fn fresh<O: Sink>(&mut self, step: &Step, frame: &[u8], out: &mut O) -> Result<(), Failed>
+    /// Codes a frame by the record that was found in it, and writes what the step has in the stream. It stands for the step
+    /// even where writing failed.
+    pub fn guided<O: Sink>(
+        &mut self,
+        step: &Step,
+        frame: &[u8],
+        found: &Found<'_>,
+        out: &mut O,
+    ) -> Result<(), Failed>
         requires { (r : Recoding) × (before : List FrameStep) × StandsFor self.old r before
-            × IsFreshStep r before (frame_step step.now frame.now) }
+            × IsGuidedStep r before (frame_step step.now frame.now) found.now }
         ensures stands { (r : Recoding) (before : List FrameStep) → StandsFor self.old r before
-            → IsFreshStep r before (frame_step step.now frame.now)
+            → IsGuidedStep r before (frame_step step.now frame.now) found.now
             → StandsFor self.new r (frame_step step.now frame.now ∷ before) }
         ensures sends { (r : Recoding) (before : List FrameStep) → StandsFor self.old r before
-            → IsFreshStep r before (frame_step step.now frame.now)
+            → IsGuidedStep r before (frame_step step.now frame.now) found.now
             → Sends O.written O.faults O.room out.old out.new
             (coded_step r (frame_step step.now frame.now) (coded_steps r before)).bytes result }
     {
-        let repeats = repeats_part(step, &self.anchor);
-        self.code_fresh(step, frame);
+        // for the proof: a picture can be coded by a record
+        coded_law();
+        let changes = self.bring_into_force(step, &own_part(&Some(*found)));
+        let repeats = is_sent_before(changes, found.record.sheet.prefix);
+        self.code_guided(step, frame, found);
+        self.send_guided(repeats, &found.record.sheet, out)
+    }
+
+    /// Codes a frame anew, under the sequence part of its own record where it has an anchor record, and writes what the step
+    /// has in the stream. It stands for the step even where writing failed.
+    pub fn fresh<O: Sink>(
+        &mut self,
+        step: &Step,
+        frame: &[u8],
+        found: Option<Found<'_>>,
+        out: &mut O,
+    ) -> Result<(), Failed>
+        requires { (r : Recoding) × (before : List FrameStep) × StandsFor self.old r before
+            × IsFreshStep r before (frame_step step.now frame.now) found }
+        ensures stands { (r : Recoding) (before : List FrameStep) → StandsFor self.old r before
+            → IsFreshStep r before (frame_step step.now frame.now) found.entry
+            → StandsFor self.new r (frame_step step.now frame.now ∷ before) }
+        ensures sends { (r : Recoding) (before : List FrameStep) → StandsFor self.old r before
+            → IsFreshStep r before (frame_step step.now frame.now) found.entry
+            → Sends O.written O.faults O.room out.old out.new
+            (coded_step r (frame_step step.now frame.now) (coded_steps r before)).bytes result }
+    {
+        // for the proof: the context of a record is legal
+        coded_law();
+        let own = own_part(&found);
+        let repeats = self.bring_into_force(step, &own);
+        let context = context_under(&own, &self.context);
+        self.code_fresh(step, frame, &context);
         self.send_fresh(repeats, out)
     }
 
@@ -130,40 +166,6 @@ impl Recoder {
             → result.now ≡ (coded_step r s (coded_steps r before)).decoded.picture }
     {
         self.store.held(self.pic, true).picture
-    }
-
-    /// Codes a frame anew. Its front and its slices are kept until they are sent.
-    fn code_fresh(&mut self, step: &Step, frame: &[u8])
-        requires { MayCode self.old step.now frame.now }
-        ensures { CodesFresh self.old self.new step.now frame.now }
-    {
-        let pic = fresh_type(step.anchor);
-        let temporal = fresh_temporal(step, self.count, &self.anchor);
-        let head = fresh_head(&self.header, &self.context, pic, temporal);
-        write_front(&self.header, step, self.count, &head, &mut self.front);
-        write_decisions(&head, self.scale, &mut self.decisions);
-        make_source(frame, &mut self.source);
-        code_picture(
-            &head,
-            &self.decisions,
-            &self.source,
-            &mut self.levels,
-            &mut self.store,
-        );
-        keep_slices(&head, &self.decisions, &self.levels, &mut self.slices);
-        self.pic = pic;
-        self.count += 1;
-        self.anchor = last_anchor(step, temporal, self.anchor);
-        self.end = None;
-    }
-
-    /// Sends what was kept of a fresh picture, behind the sequence part where that is repeated.
-    fn send_fresh<O: Sink>(&self, repeats: bool, out: &mut O) -> Result<(), Failed>
-        ensures { Sends O.written O.faults O.room out.old out.new
-            (kept_bytes repeats self.now) result }
-    {
-        let part: &[u8] = if repeats { self.part.bytes() } else { &[] };
-        send_all(out, &[part, self.front.bytes(), self.slices.bytes()])
     }
 }
 

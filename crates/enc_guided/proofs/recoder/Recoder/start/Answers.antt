@@ -1,6 +1,6 @@
 use Rattle.std.proofs.Common.{rules, ◌≡◌, ◌*◌, [], length, refl}
 use Rattle.mv_bits.specs.Receivers.{KeepsFirst}
-use Rattle.enc_guided.proofs.StepLemmas.{started}
+use Rattle.enc_guided.proofs.StartLemmas.{started}
 use Rattle.enc_guided.proofs.recoder.Recoder.start.Goals as goal
 
 pub returns : goal.returns
