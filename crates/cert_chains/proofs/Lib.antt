@@ -1,0 +1,15 @@
+mod OptionLemmas
+pub mod ReferenceLemmas
+pub mod StreamLemmas
+pub mod ContextLemmas
+mod FlagLemmas
+pub mod FoundLemmas
+pub mod LinkLemmas
+mod ChainLemmas
+pub mod OrderLemmas
+mod SourceLemmas
+mod UseLemmas
+mod StepLemmas
+pub mod PlaceLemmas
+mod BackLemmas
+mod KeptLemmas
