@@ -24,7 +24,8 @@ use Rattle.plan_window.specs.Plan.{ahead}
 use Rattle.plan_window.specs.State.{WindowState, count_pushed}
 use Rattle.plan_window.specs.Stands.{StandsFor, MayFollow}
 use Rattle.enc_guided.specs.Recoded.{FrameStep}
-use Rattle.job_recode.specs.Recoded.{Coding, summaries, bytes_of_steps, frame_step, frame_steps, steps_of, recoded, first_steps}
+use Rattle.enc_guided.specs.FileSteps.{step_of_frame}
+use Rattle.job_recode.specs.Codings.{Coding, summaries, bytes_of_coding, frame_steps, steps_of, recoded, first_steps}
 use Rattle.job_recode.specs.Outcome.{HeaderCoding, AppendsSettled, IsNear, outcome_of, recoded_by, status_by, status_of, taken_of}
 use Rattle.job_recode.specs.Steps.{EndsFile, FillsSlot}
 use Rattle.job_recode.proofs.Growth.{Below, bytes_begin, steps_begin, few_steps, front_is_less}
@@ -116,7 +117,7 @@ module _ {k : Coding} {Codes : List (List ℕ) → List Summary → List FrameSt
       let k_is : coding f.header ≡ k = ap (λ (y : File). coding y.header) all ∙ coding_is in
       let first : first_steps (coding f.header) f.frames.frames (s + 1) ≡ first_steps k (t.frames ++ told.others) (s + 1) =
       ap (λ (c : Coding). first_steps c f.frames.frames (s + 1)) k_is ∙ ap (λ (fs : List (List ℕ)). first_steps k fs (s + 1)) frames_are in
-      let long = appended_long p q old mid new (bytes_of_steps k (frame_steps t.frames t.given)) x o w t.written front in
+      let long = appended_long p q old mid new (bytes_of_coding k (frame_steps t.frames t.given)) x o w t.written front in
       go told s n
       (subst (λ (y : List ℕ). length (drop (length p) q) < length y) first few)
       (subst (λ (y : List (List ℕ)). s + 17 ≤ length y) frames_are enough) within long
@@ -133,14 +134,14 @@ module _ {k : Coding} {Codes : List (List ℕ) → List Summary → List FrameSt
           omega (arith, few, le, enough, length-append t.frames told.others, ap length none))
 
       go : (told : Told k coding file t.frames ending) (s n : ℕ) → length (drop (length p) q) < length (first_steps k (t.frames ++ told.others) (s + 1)) → s + 17 ≤ length (t.frames ++ told.others) → s + 17 ≤ frames_within file n
-          → length (bytes_of_steps k (frame_steps t.frames t.given)) ≤ length (drop (length p) q)
+          → length (bytes_of_coding k (frame_steps t.frames t.given)) ≤ length (drop (length p) q)
           → (later : List FrameStep) × (steps_of k (t.frames ++ told.others) ≡ later ++ frame_steps t.frames t.given) → length file - length left < n + read_limit
       go told s n few enough within long (later, e) =
           let steps = frame_steps t.frames t.given in
-          let more : length (drop (length p) q) < length (bytes_of_steps k (drop (length (later ++ steps) - (s + 1)) (later ++ steps))) =
-          subst (λ (cs : List FrameStep). length (drop (length p) q) < length (bytes_of_steps k (drop (length cs - (s + 1)) cs))) e few in
+          let more : length (drop (length p) q) < length (bytes_of_coding k (drop (length (later ++ steps) - (s + 1)) (later ++ steps))) =
+          subst (λ (cs : List FrameStep). length (drop (length p) q) < length (bytes_of_coding k (drop (length cs - (s + 1)) cs))) e few in
           let given : length steps ≤ s = few_steps k later steps s (length (drop (length p) q)) long more in
-          by ending refl told s n (omega (arith, given, length-map t.given (frame_step t.frames))) enough within
+          by ending refl told s n (omega (arith, given, length-map t.given (step_of_frame t.frames))) enough within
 
   -- coding a step failed
   pub exit_step : (next : WindowState) (new : Option (List ℕ)) (s : Step) (frame : List ℕ) → (t : Turn k Codes Begins reader rest window slots old mid count ending)
@@ -168,13 +169,13 @@ module _ {k : Coding} {Codes : List (List ℕ) → List Summary → List FrameSt
       may : MayFollow next.closed (summaries k told.others)
       may = may_follow k told.others ending next (λ fault e. (told.last fault e).0) (λ e. closed ∙ t.goes_on e)
 
-      sent : AppendsFront mid new (k.bytes (frame_steps t.frames t.given) (frame_step t.frames s))
+      sent : AppendsFront mid new (k.bytes (frame_steps t.frames t.given) (step_of_frame t.frames s))
       sent = subst (λ (c : FrameStep). AppendsFront mid new (k.bytes (frame_steps t.frames t.given) c)) (sym (frame_is t s frame among at)) front
 
-      go : (b : List ℕ) × (recoded k (t.frames ++ told.others) ≡ bytes_of_steps k (frame_steps t.frames (s ∷ t.given)) ++ b) → AppendsFront old new (recoded k (t.frames ++ told.others))
+      go : (b : List ℕ) × (recoded k (t.frames ++ told.others) ≡ bytes_of_coding k (frame_steps t.frames (s ∷ t.given)) ++ b) → AppendsFront old new (recoded k (t.frames ++ told.others))
       go (b, e) = subst (λ (x : List ℕ). AppendsFront old new x) (sym e)
-          (front_first old new (bytes_of_steps k (frame_steps t.frames (s ∷ t.given))) b
-          (front_behind old mid new (bytes_of_steps k (frame_steps t.frames t.given)) (k.bytes (frame_steps t.frames t.given) (frame_step t.frames s)) t.written sent))
+          (front_first old new (bytes_of_coding k (frame_steps t.frames (s ∷ t.given))) b
+          (front_behind old mid new (bytes_of_coding k (frame_steps t.frames t.given)) (k.bytes (frame_steps t.frames t.given) (step_of_frame t.frames s)) t.written sent))
 
 -- where all frames were read
 
@@ -219,9 +220,9 @@ module _ {k : Coding} {Codes : List (List ℕ) → List Summary → List FrameSt
   all_frames t coding file begins = t.told file begins ∙ ap (λ (h : FrameHeader). Ok (record { line = reader.line; header = h; frames = up_to t.frames fault })) t.header
 
   output_is : (t : Turn k Codes Begins reader rest window slots old mid count (Some fault)) → NoStep window → (coding : HeaderCoding) (file : List ℕ) → coding k.header ≡ k → Begins file
-      → bytes_of_steps k (frame_steps t.frames t.given) ++ k.ending (frame_steps t.frames t.given) ≡ recoded_by coding (file_of file)
+      → bytes_of_coding k (frame_steps t.frames t.given) ++ k.ending (frame_steps t.frames t.given) ≡ recoded_by coding (file_of file)
   output_is t none coding file coding_is begins =
-      ap (λ (cs : List FrameStep). bytes_of_steps k cs ++ k.ending cs) (all_steps t none)
+      ap (λ (cs : List FrameStep). bytes_of_coding k cs ++ k.ending cs) (all_steps t none)
       ∙ ap (λ (c : Coding). recoded c t.frames) (sym coding_is)
       ∙ ap (recoded_by coding) (sym (all_frames t coding file begins))
 
@@ -229,7 +230,7 @@ module _ {k : Coding} {Codes : List (List ℕ) → List Summary → List FrameSt
   pub exit_ended : (new : Option (List ℕ)) (result : Status) → (t : Turn k Codes Begins reader rest window slots old mid count (Some fault)) → NoStep window → Appends mid new (k.ending (frame_steps t.frames t.given)) → result ≡ status_of fault
       → (coding : HeaderCoding) (file : List ℕ) → coding k.header ≡ k → Begins file → EndsFile coding file rest old new result
   exit_ended new result t none sent is coding file coding_is begins =
-      let whole = Appends-trans old mid new (bytes_of_steps k (frame_steps t.frames t.given)) (k.ending (frame_steps t.frames t.given)) t.written sent in
+      let whole = Appends-trans old mid new (bytes_of_coding k (frame_steps t.frames t.given)) (k.ending (frame_steps t.frames t.given)) t.written sent in
       subst (λ (st : Status). EndsFile coding file rest old new st) (sym is)
       (ends_by rest old fault coding file new (ap status_by (all_frames t coding file begins)) (subst (λ (x : List ℕ). Appends old new x) (output_is t none coding file coding_is begins) whole))
 
@@ -238,15 +239,15 @@ module _ {k : Coding} {Codes : List (List ℕ) → List Summary → List FrameSt
       → (coding : HeaderCoding) (file : List ℕ) → coding k.header ≡ k → Begins file → EndsFile coding file rest old new status.WriteFault
   exit_unended new t none front coding file coding_is begins = record {
     ends = subst (λ (x : List ℕ). AppendsFront old new x) (output_is t none coding file coding_is begins)
-        (front_behind old mid new (bytes_of_steps k (frame_steps t.frames t.given)) (k.ending (frame_steps t.frames t.given)) t.written front);
+        (front_behind old mid new (bytes_of_coding k (frame_steps t.frames t.given)) (k.ending (frame_steps t.frames t.given)) t.written front);
     settled = λ failed. absurd (not_read failed);
     near = λ failed left rest_is p o q w f f_is s n few enough within. absurd (
         let all : f ≡ record { line = reader.line; header = k.header; frames = up_to t.frames fault } = ok_is (file_of file) f _ f_is (all_frames t coding file begins) in
         let steps = frame_steps t.frames t.given in
-        let first : first_steps (coding f.header) f.frames.frames (s + 1) ≡ bytes_of_steps k (drop (length steps - (s + 1)) steps) =
+        let first : first_steps (coding f.header) f.frames.frames (s + 1) ≡ bytes_of_coding k (drop (length steps - (s + 1)) steps) =
         ap (λ (y : File). first_steps (coding y.header) y.frames.frames (s + 1)) all ∙ ap (λ (c : Coding). first_steps c t.frames (s + 1)) coding_is
-        ∙ ap (λ (cs : List FrameStep). bytes_of_steps k (drop (length cs - (s + 1)) cs)) (sym (all_steps t none)) in
-        let long = appended_long p q old mid new (bytes_of_steps k steps) (k.ending steps) o w t.written front in
+        ∙ ap (λ (cs : List FrameStep). bytes_of_coding k (drop (length cs - (s + 1)) cs)) (sym (all_steps t none)) in
+        let long = appended_long p q old mid new (bytes_of_coding k steps) (k.ending steps) o w t.written front in
         let less = front_is_less k (length steps - (s + 1)) steps in
         omega (arith, long, less, few, ap length first));
   }
@@ -261,8 +262,8 @@ module _ {k : Coding} {Codes : List (List ℕ) → List Summary → List FrameSt
   settled_yet : (t : Turn k Codes Begins reader rest window slots old new count None) → (more : List (List ℕ)) → AppendsPart old new (recoded k (t.frames ++ more))
   settled_yet t more = go (bytes_begin k window t.frames t.numbered t.given t.stands t.same t.below more (λ closed. absurd (let no : true ≡ false = sym closed ∙ t.goes_on refl in cc)))
     where
-      go : (b : List ℕ) × (recoded k (t.frames ++ more) ≡ bytes_of_steps k (frame_steps t.frames t.given) ++ b) → AppendsPart old new (recoded k (t.frames ++ more))
-      go (b, e) = record { front = bytes_of_steps k (frame_steps t.frames t.given); back = b; parts = e; grown = t.written }
+      go : (b : List ℕ) × (recoded k (t.frames ++ more) ≡ bytes_of_coding k (frame_steps t.frames t.given) ++ b) → AppendsPart old new (recoded k (t.frames ++ more))
+      go (b, e) = record { front = bytes_of_coding k (frame_steps t.frames t.given); back = b; parts = e; grown = t.written }
 
 module _ {k : Coding} {Codes : List (List ℕ) → List Summary → List FrameStep → Type 0} {Begins : List ℕ → Type 0} {reader reader_new : Reading} {rest rest_new : Option (List ℕ)} {window : WindowState} {slots slots_new : List (List ℕ)} {old new : Option (List ℕ)} {count : ℕ} {result : Result Bool Halt} where
   pub exit_read : (t : Turn k Codes Begins reader rest window slots old new count None) → FillsSlot slots slots_new count reader reader_new rest rest_new result → result ≡ Err halts.Read

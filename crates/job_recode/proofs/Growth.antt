@@ -12,24 +12,25 @@ use Rattle.plan_window.specs.Fits.{Planned, Fits, planned, planned_step}
 use Rattle.plan_window.proofs.BeginLemmas.{numbers_begin}
 use Rattle.plan_window.proofs.FitLemmas.{plan_fits}
 use Rattle.enc_guided.specs.Recoded.{FrameStep}
-use Rattle.job_recode.specs.Recoded.{Coding, summaries, frame_step, frame_steps, steps_of, bytes_of_steps, recoded, planned_of}
+use Rattle.enc_guided.specs.FileSteps.{step_of_frame}
+use Rattle.job_recode.specs.Codings.{Coding, summaries, frame_steps, steps_of, bytes_of_coding, recoded, planned_of}
 
 -- what later steps write comes behind
-pub bytes_more : (k : Coding) (later before : List FrameStep) → (b : List ℕ) × (bytes_of_steps k (later ++ before) ≡ bytes_of_steps k before ++ b)
-bytes_more k [] before = ([], sym (append-nil (bytes_of_steps k before)))
+pub bytes_more : (k : Coding) (later before : List FrameStep) → (b : List ℕ) × (bytes_of_coding k (later ++ before) ≡ bytes_of_coding k before ++ b)
+bytes_more k [] before = ([], sym (append-nil (bytes_of_coding k before)))
 bytes_more k (s ∷ later) before = go (bytes_more k later before)
   where
-    go : (b : List ℕ) × (bytes_of_steps k (later ++ before) ≡ bytes_of_steps k before ++ b)
-        → (b : List ℕ) × (bytes_of_steps k (later ++ before) ++ k.bytes (later ++ before) s ≡ bytes_of_steps k before ++ b)
+    go : (b : List ℕ) × (bytes_of_coding k (later ++ before) ≡ bytes_of_coding k before ++ b)
+        → (b : List ℕ) × (bytes_of_coding k (later ++ before) ++ k.bytes (later ++ before) s ≡ bytes_of_coding k before ++ b)
     go (b, e) = let more = k.bytes (later ++ before) s in
-        (b ++ more, ap (λ (x : List ℕ). x ++ more) e ∙ append_assoc (bytes_of_steps k before) b more)
+        (b ++ more, ap (λ (x : List ℕ). x ++ more) e ∙ append_assoc (bytes_of_coding k before) b more)
 
 -- the first of some steps write no more than all of them
-pub front_is_less : (k : Coding) (n : ℕ) (steps : List FrameStep) → length (bytes_of_steps k (drop n steps)) ≤ length (bytes_of_steps k steps)
+pub front_is_less : (k : Coding) (n : ℕ) (steps : List FrameStep) → length (bytes_of_coding k (drop n steps)) ≤ length (bytes_of_coding k steps)
 front_is_less k zero steps = omega arith
 front_is_less k (suc n) [] = omega arith
 front_is_less k (suc n) (s ∷ before) =
-    let h = front_is_less k n before in omega (arith, h, length-append (bytes_of_steps k before) (k.bytes before s))
+    let h = front_is_less k n before in omega (arith, h, length-append (bytes_of_coding k before) (k.bytes before s))
 
 drop_past : {X : Type 0} (n : ℕ) (later before : List X) → length later ≤ n → drop n (later ++ before) ≡ drop (n - length later) before
 drop_past n [] before le = let e : n ≡ n - 0 = omega arith in ap (λ (m : ℕ). drop m before) e
@@ -39,14 +40,14 @@ drop_past (suc n) (x ∷ later) before le =
     drop_past n later before (omega arith) ∙ ap (λ (m : ℕ). drop m before) (sym e)
 
 -- the first n steps are among those before, where these are n at least
-first_within : (k : Coding) (later before : List FrameStep) (n : ℕ) → n ≤ length before → length (bytes_of_steps k (drop (length (later ++ before) - n) (later ++ before))) ≤ length (bytes_of_steps k before)
+first_within : (k : Coding) (later before : List FrameStep) (n : ℕ) → n ≤ length before → length (bytes_of_coding k (drop (length (later ++ before) - n) (later ++ before))) ≤ length (bytes_of_coding k before)
 first_within k later before n le =
     let all = length-append later before in
     let e = drop_past (length (later ++ before) - n) later before (omega (arith, all)) in
     rw e (front_is_less k ((length (later ++ before) - n) - length later) before)
 
 -- where fewer bytes were written than s + 1 steps have, no more than s steps were written
-pub few_steps : (k : Coding) (later before : List FrameStep) (s n : ℕ) → length (bytes_of_steps k before) ≤ n → n < length (bytes_of_steps k (drop (length (later ++ before) - (s + 1)) (later ++ before))) → length before ≤ s
+pub few_steps : (k : Coding) (later before : List FrameStep) (s n : ℕ) → length (bytes_of_coding k before) ≤ n → n < length (bytes_of_coding k (drop (length (later ++ before) - (s + 1)) (later ++ before))) → length before ≤ s
 few_steps k later before s n long few = go (cases_lt s (length before))
   where
     go : (s < length before) ⊎ (length before ≤ s) → length before ≤ s
@@ -82,21 +83,21 @@ steps_begin k window frames numbered given stands same below more may = go (numb
     go (l, e) = (
       frame_steps (frames ++ more) l,
       ap (λ (ss : List Summary). frame_steps (frames ++ more) (plan ahead ss)) (map-append k.summary frames more) ∙ ap (frame_steps (frames ++ more)) e
-          ∙ map-append (frame_step (frames ++ more)) l given ∙ ap (λ (cs : List FrameStep). frame_steps (frames ++ more) l ++ cs) (steps_same frames more given below),
+          ∙ map-append (step_of_frame (frames ++ more)) l given ∙ ap (λ (cs : List FrameStep). frame_steps (frames ++ more) l ++ cs) (steps_same frames more given below),
     )
 
 -- So do their bytes.
 pub bytes_begin : (k : Coding) (window : WindowState) (frames : List (List ℕ)) (numbered : List Summary) (given : List Step) → StandsFor ahead window numbered given → AreNumbered ahead (summaries k frames) numbered → Below given (length frames)
-    → (more : List (List ℕ)) → (MayFollow window.closed (summaries k more)) → (b : List ℕ) × (recoded k (frames ++ more) ≡ bytes_of_steps k (frame_steps frames given) ++ b)
+    → (more : List (List ℕ)) → (MayFollow window.closed (summaries k more)) → (b : List ℕ) × (recoded k (frames ++ more) ≡ bytes_of_coding k (frame_steps frames given) ++ b)
 bytes_begin k window frames numbered given stands same below more may = go (steps_begin k window frames numbered given stands same below more may)
   where
-    go : (later : List FrameStep) × (steps_of k (frames ++ more) ≡ later ++ frame_steps frames given) → (b : List ℕ) × (recoded k (frames ++ more) ≡ bytes_of_steps k (frame_steps frames given) ++ b)
+    go : (later : List FrameStep) × (steps_of k (frames ++ more) ≡ later ++ frame_steps frames given) → (b : List ℕ) × (recoded k (frames ++ more) ≡ bytes_of_coding k (frame_steps frames given) ++ b)
     go (later, e) = with_bytes (bytes_more k later (frame_steps frames given))
       where
-        with_bytes : (b : List ℕ) × (bytes_of_steps k (later ++ frame_steps frames given) ≡ bytes_of_steps k (frame_steps frames given) ++ b) → (b : List ℕ) × (recoded k (frames ++ more) ≡ bytes_of_steps k (frame_steps frames given) ++ b)
+        with_bytes : (b : List ℕ) × (bytes_of_coding k (later ++ frame_steps frames given) ≡ bytes_of_coding k (frame_steps frames given) ++ b) → (b : List ℕ) × (recoded k (frames ++ more) ≡ bytes_of_coding k (frame_steps frames given) ++ b)
         with_bytes (b, f) =
             let end = k.ending (later ++ frame_steps frames given) in
-            (b ++ end, ap (λ (cs : List FrameStep). bytes_of_steps k cs ++ k.ending cs) e ∙ ap (λ (s : List ℕ). s ++ end) f ∙ append_assoc (bytes_of_steps k (frame_steps frames given)) b end)
+            (b ++ end, ap (λ (cs : List FrameStep). bytes_of_coding k cs ++ k.ending cs) e ∙ ap (λ (s : List ℕ). s ++ end) f ∙ append_assoc (bytes_of_coding k (frame_steps frames given)) b end)
 
 -- steps with the summaries of their frames
 
@@ -105,7 +106,7 @@ get_summary k [] i = refl
 get_summary k (f ∷ frames) zero = refl
 get_summary k (f ∷ frames) (suc i) = get_summary k frames i
 
-planned_is : (k : Coding) (frames : List (List ℕ)) (s : Step) → planned_step (k.summary []) (summaries k frames) s ≡ planned_of k (frame_step frames s)
+planned_is : (k : Coding) (frames : List (List ℕ)) (s : Step) → planned_step (k.summary []) (summaries k frames) s ≡ planned_of k (step_of_frame frames s)
 planned_is k frames s = ap (λ (x : Summary). record { step = s; summary = x }) (get_summary k frames s.frame)
 
 all_planned : (k : Coding) (frames : List (List ℕ)) (given : List Step) → planned (k.summary []) (summaries k frames) given ≡ map (planned_of k) (frame_steps frames given)
@@ -114,10 +115,10 @@ all_planned k frames (s ∷ given) = ap₂ (λ (p : Planned) (ps : List Planned)
 
 -- Each step that a window gives fits behind those before it.
 pub step_fits : (k : Coding) (window : WindowState) (frames : List (List ℕ)) (numbered : List Summary) (s : Step) (given : List Step) → StandsFor ahead window numbered (s ∷ given) → AreNumbered ahead (summaries k frames) numbered
-    → Fits (map (planned_of k) (frame_steps frames given)) (planned_of k (frame_step frames s))
+    → Fits (map (planned_of k) (frame_steps frames given)) (planned_of k (step_of_frame frames s))
 step_fits k window frames numbered s given stands same = go (numbers_begin window (summaries k frames) numbered (s ∷ given) stands same [] (λ closed. refl))
   where
-    go : (l : List Step) × (plan ahead (summaries k frames ++ []) ≡ l ++ s ∷ given) → Fits (map (planned_of k) (frame_steps frames given)) (planned_of k (frame_step frames s))
+    go : (l : List Step) × (plan ahead (summaries k frames ++ []) ≡ l ++ s ∷ given) → Fits (map (planned_of k) (frame_steps frames given)) (planned_of k (step_of_frame frames s))
     go (l, e) =
         let fits = plan_fits (k.summary []) (summaries k frames) l given s (ap (plan ahead) (sym (append-nil (summaries k frames))) ∙ e) in
         subst (λ (p : Planned). Fits (map (planned_of k) (frame_steps frames given)) p) (planned_is k frames s)

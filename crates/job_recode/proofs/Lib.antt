@@ -2,5 +2,7 @@ pub mod Growth
 pub mod Turns
 pub mod Exits
 pub mod HeaderLemmas
-mod FreshLemmas
-mod FreshStream
+mod FrameLemmas
+mod RecordLemmas
+pub mod StepLemmas
+mod RecodedLemmas

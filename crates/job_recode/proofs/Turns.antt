@@ -20,7 +20,8 @@ use Rattle.plan_window.specs.Numbers.{AreNumbered, NumbersServe, without_context
 use Rattle.plan_window.specs.State.{WindowState, left_of, steps_left, count_pushed}
 use Rattle.plan_window.specs.Stands.{StandsFor}
 use Rattle.enc_guided.specs.Recoded.{FrameStep}
-use Rattle.job_recode.specs.Recoded.{Coding, IsNextStep, IsFrameOf, summaries, bytes_of_steps, frame_step, frame_steps, planned_of}
+use Rattle.enc_guided.specs.FileSteps.{step_of_frame}
+use Rattle.job_recode.specs.Codings.{Coding, IsNextStep, IsFrameOf, summaries, bytes_of_coding, frame_steps, planned_of}
 use Rattle.job_recode.specs.Steps.{FillsSlot}
 use Rattle.job_recode.proofs.Growth.{Below, below_more, steps_same, step_fits}
 
@@ -60,7 +61,7 @@ pub record Turn (k : Coding) (Codes : List (List ℕ) → List Summary → List 
   pub codes : Codes frames numbered (frame_steps frames given)
   pub same : AreNumbered ahead (summaries k frames) numbered
   pub stands : StandsFor ahead window numbered given
-  pub written : Appends old new (bytes_of_steps k (frame_steps frames given))
+  pub written : Appends old new (bytes_of_coding k (frame_steps frames given))
   pub below : Below given (length frames)
   pub header : reader.header ≡ k.header
   pub right : (i : ℕ) (frame : List ℕ) → slice_get frames i ≡ Some frame → IsFrameOf k.header frame
@@ -140,7 +141,7 @@ module _ {k : Coding} {Codes : List (List ℕ) → List Summary → List FrameSt
   pub frame_at : (t : Turn k Codes Begins reader rest window slots old new count ending) (n : ℕ) (frame : List ℕ) → (window.first ≤ n) × (n < count_pushed window) → slice_get slots (n % 17) ≡ Some frame → slice_get t.frames n ≡ Some frame
   frame_at t n frame among at = sym (t.kept n among.0 (let all = all_pushed t in omega (arith, among.1, all))) ∙ at
 
-  pub frame_is : (t : Turn k Codes Begins reader rest window slots old new count ending) (s : Step) (frame : List ℕ) → (window.first ≤ s.frame) × (s.frame < count_pushed window) → slice_get slots (s.frame % 17) ≡ Some frame → frame_step t.frames s ≡ record { step = s; frame = frame }
+  pub frame_is : (t : Turn k Codes Begins reader rest window slots old new count ending) (s : Step) (frame : List ℕ) → (window.first ≤ s.frame) × (s.frame < count_pushed window) → slice_get slots (s.frame % 17) ≡ Some frame → step_of_frame t.frames s ≡ record { step = s; frame = frame }
   frame_is t s frame among at = ap (λ (f : List ℕ). record { step = s; frame = f }) (get_or_from_slice_get t.frames s.frame frame [] (frame_at t s.frame frame among at))
 
   -- what the coder may rely on
@@ -151,7 +152,7 @@ module _ {k : Coding} {Codes : List (List ℕ) → List Summary → List FrameSt
       record {
         fits = subst (λ (x : FrameStep). Fits (map (planned_of k) (frame_steps t.frames t.given)) (planned_of k x)) (frame_is t s frame among at) (step_fits k next t.frames t.numbered s t.given after t.same);
         frame = t.right s.frame frame (frame_at t s.frame frame among at);
-        few = omega (arith, all, left, most, t.counted, length-map t.given (frame_step t.frames));
+        few = omega (arith, all, left, most, t.counted, length-map t.given (step_of_frame t.frames));
       }
 
   -- a step was coded
@@ -175,7 +176,7 @@ module _ {k : Coding} {Codes : List (List ℕ) → List Summary → List FrameSt
         codes = subst (λ (c : FrameStep). Now t.frames t.numbered (c ∷ frame_steps t.frames t.given)) (sym is) coding;
         same = t.same;
         stands = after;
-        written = Appends-trans old new later (bytes_of_steps k (frame_steps t.frames t.given)) (k.bytes (frame_steps t.frames t.given) (frame_step t.frames s)) t.written
+        written = Appends-trans old new later (bytes_of_coding k (frame_steps t.frames t.given)) (k.bytes (frame_steps t.frames t.given) (step_of_frame t.frames s)) t.written
             (subst (λ (c : FrameStep). Appends new later (k.bytes (frame_steps t.frames t.given) c)) (sym is) sent);
         below = (lt, t.below);
         header = t.header;
@@ -307,7 +308,7 @@ module _ {k : Coding} {Codes : List (List ℕ) → List Summary → List FrameSt
         codes = subst (λ (steps : List FrameStep). Now (t.frames ++ frame ∷ []) (t.numbered ++ summary ∷ []) steps) (sym steps_are) codes;
         same = same;
         stands = after;
-        written = subst (λ (steps : List FrameStep). Appends old new (bytes_of_steps k steps)) (sym steps_are) t.written;
+        written = subst (λ (steps : List FrameStep). Appends old new (bytes_of_coding k steps)) (sym steps_are) t.written;
         below = below_more t.given (length t.frames) (length (t.frames ++ frame ∷ [])) (omega (arith, long)) t.below;
         header = header_same ∙ t.header;
         right = right_more k.header t.frames frame t.right (look_ready t fills frame many at ok);

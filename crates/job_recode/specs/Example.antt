@@ -4,7 +4,7 @@ use Rattle.std.specs.Option.{option_map_or}
 use Rattle.mv_terms.specs.declared.head.PicType.TheVariants.{I}
 use Rattle.mv_terms.specs.declared.frame_header.FrameHeader.{FrameHeader}
 use Rattle.plan_window.specs.declared.summary.Summary.{Summary}
-use Rattle.job_recode.specs.Recoded.{Coding}
+use Rattle.job_recode.specs.Codings.{Coding}
 
 -- a frame has an anchor record where the high byte of its first sample is 3
 abbrev pub is_anchor : List ℕ → Bool

@@ -1,6 +1,7 @@
-pub mod Recoded
+pub mod Codings
 pub mod Outcome
-pub mod Fresh
-pub mod FreshLaws
+pub mod Stands
+pub mod ByRecords
+pub mod Laws
 pub mod Steps
 pub mod Example

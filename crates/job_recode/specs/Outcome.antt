@@ -10,7 +10,7 @@ use Rattle.mv_terms.specs.declared.status.Status.{Status}
 use Rattle.mv_terms.specs.declared.status.Status.TheVariants as status
 use Rattle.y4m_frames.specs.Frames.{File, file_of}
 use Rattle.y4m_frames.specs.Behind.{frames_within, read_limit}
-use Rattle.job_recode.specs.Recoded.{Coding, recoded, first_steps}
+use Rattle.job_recode.specs.Codings.{Coding, recoded, first_steps}
 
 -- done, or the first fault
 abbrev pub status_of : Option FrameFault → Status

@@ -9,7 +9,7 @@ use Rattle.y4m_frames.specs.declared.halt.Halt.{Halt}
 use Rattle.y4m_frames.specs.Frames.{file_of}
 use Rattle.y4m_frames.specs.Reading.{Reading}
 use Rattle.y4m_frames.specs.Behind.{IsBehind, AnswersBehind}
-use Rattle.job_recode.specs.Recoded.{IsFrameOf}
+use Rattle.job_recode.specs.Codings.{IsFrameOf}
 use Rattle.job_recode.specs.Outcome.{HeaderCoding, outcome_of, AppendsSettled, IsNear, taken_of}
 
 -- a frame of this number was read into its slot

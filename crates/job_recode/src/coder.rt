@@ -7,7 +7,7 @@ ghost use Rattle.plan_window.specs.declared.summary.Summary.{Summary};
 ghost use Rattle.mv_terms.specs.Ranges.{IsFrameHeader, IsScaleCode};
 ghost use Rattle.enc_guided.specs.Recoded.{FrameStep};
 ghost use Rattle.job_recode.specs.Outcome.{HeaderCoding};
-ghost use Rattle.job_recode.specs.Recoded.{Coding, IsFrameOf, IsNextStep, summaries};
+ghost use Rattle.job_recode.specs.Codings.{Coding, IsFrameOf, IsNextStep, summaries};
 
 use mv_ends::{Failed, Sink};
 use mv_terms::{FrameHeader, NoMemory};

@@ -1,16 +1,15 @@
-//! A law of files without records, for crates above.
-ghost use Rattle.job_recode.specs.FreshLaws.{FreshFramesAreShown, FreshFramesAreStream};
+//! A law of the frames of a file, for crates above.
+ghost use Rattle.job_recode.specs.Laws.{FramesAreShown, FramesAreStream, RecodedByRecords};
 
-use enc_guided::stream_law;
-use plan_window::steps_law;
+use enc_stream::stream_law;
 
-/// What is written for frames without records is a stream in the profile, of the pictures of the steps of their plan, which
-/// are shown in the order of the frames.
-pub fn fresh_law()
-    ensures stream { FreshFramesAreStream }
-    ensures shown { FreshFramesAreShown }
+/// What is written for the frames of a file, whatever their records say, is the recoded stream: a stream in the profile, of
+/// the pictures of the steps of their plan, which are shown in the order of the frames.
+pub fn recoded_law()
+    ensures by_records { RecodedByRecords }
+    ensures stream { FramesAreStream }
+    ensures shown { FramesAreShown }
 {
-    // for the proof: steps of a plan fit, and such steps are a stream
-    steps_law();
+    // for the proof: the recoded frames are a stream
     stream_law();
 }

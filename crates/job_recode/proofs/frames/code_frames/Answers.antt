@@ -10,7 +10,7 @@ use Rattle.plan_window.specs.Plan.{ahead}
 use Rattle.plan_window.specs.Numbers.{AreNumbered}
 use Rattle.plan_window.specs.State.{steps_left}
 use Rattle.y4m_frames.proofs.ShelfLemmas.{keeps_trans}
-use Rattle.job_recode.specs.Recoded.{Coding, IsNextStep, IsFrameOf, bytes_of_steps, frame_steps, summaries}
+use Rattle.job_recode.specs.Codings.{Coding, IsNextStep, IsFrameOf, bytes_of_coding, frame_steps, summaries}
 use Rattle.job_recode.specs.Outcome.{status_of}
 use Rattle.job_recode.proofs.Turns.{NoStep, still, all_pushed, turn_at, turn_starts, step_ready, turn_steps, look_ready, turn_reads, turn_closes, left_more, left_same, says_fault, says_end}
 use Rattle.job_recode.proofs.Exits.{on_ok, on_err, exit_step, exit_ended, exit_unended, exit_read}
@@ -70,7 +70,7 @@ turns-preserved-in-Ok g c =
       chosen = c.turns.invariant.chosen;
       kept = c.turns.invariant.kept;
       same_room = sends.same_room ∙ c.turns.invariant.same_room;
-      counts = Counts-trans _ _ _ _ _ _ _ _ (bytes_of_steps k steps) (k.bytes steps (record { step = c.in-Some.step; frame = c.frame.result.now })) c.turns.invariant.counts c.turns.invariant.same_room sends.count t.written sent;
+      counts = Counts-trans _ _ _ _ _ _ _ _ (bytes_of_coding k steps) (k.bytes steps (record { step = c.in-Some.step; frame = c.frame.result.now })) c.turns.invariant.counts c.turns.invariant.same_room sends.count t.written sent;
     }
 
 pub returns-in-Err-clause-ends : goal.returns-in-Err-clause-ends
@@ -92,7 +92,7 @@ returns-in-Err-clause-write_fault g c = λ same.
     let ready = subst (λ (k : Coding). IsNextStep k steps (record { step = c.in-Some.step; frame = c.frame.result.now })) (sym c.turns.invariant.coding)
     (step_ready t c.plan_next.new.self c.in-Some.step c.frame.result.now (c.in-Some.ensures.stands t.numbered t.given t.stands) c.in-Some.ensures.frame c.in-Some.ensures.left c.frame.ensures most) in
     let sends = c.code.ensures.sends t.frames t.numbered steps t.codes ready in
-    failed_later (g.O.Sink.faults c.args.out.now) (g.O.Sink.faults c.turns.out) (g.O.Sink.faults c.code.new.out) (g.O.Sink.room c.args.out.now) (g.O.Sink.room c.turns.out) (g.O.Sink.written c.args.out.now) (g.O.Sink.written c.turns.out) (g.O.Sink.written c.code.new.out) (bytes_of_steps (g.C.Coder.coding c.args.coder.now) steps)
+    failed_later (g.O.Sink.faults c.args.out.now) (g.O.Sink.faults c.turns.out) (g.O.Sink.faults c.code.new.out) (g.O.Sink.room c.args.out.now) (g.O.Sink.room c.turns.out) (g.O.Sink.written c.args.out.now) (g.O.Sink.written c.turns.out) (g.O.Sink.written c.code.new.out) (bytes_of_coding (g.C.Coder.coding c.args.coder.now) steps)
     c.turns.invariant.counts c.turns.invariant.same_room (on_err c.code.result c.in-Err.field-0 sends.failed c.in-Err.is) t.written
 
 pub returns-in-Err-clause-same_room : goal.returns-in-Err-clause-same_room
@@ -114,7 +114,7 @@ returns-in-Err-clause-count g c =
     (step_ready t c.plan_next.new.self c.in-Some.step c.frame.result.now (c.in-Some.ensures.stands t.numbered t.given t.stands) c.in-Some.ensures.frame c.in-Some.ensures.left c.frame.ensures most) in
     let sends = c.code.ensures.sends t.frames t.numbered steps t.codes ready in
     let front = on_err c.code.result c.in-Err.field-0 sends.front c.in-Err.is in
-    Counts-trans _ _ _ _ _ _ _ _ (bytes_of_steps (g.C.Coder.coding c.args.coder.now) steps) front.front c.turns.invariant.counts c.turns.invariant.same_room sends.count t.written front.grown
+    Counts-trans _ _ _ _ _ _ _ _ (bytes_of_coding (g.C.Coder.coding c.args.coder.now) steps) front.front c.turns.invariant.counts c.turns.invariant.same_room sends.count t.written front.grown
 
 -- the end of the output
 
@@ -139,7 +139,7 @@ returns-in-Ok-finish-clause-count g c =
     let t = c.turns.invariant.turn in
     let steps = frame_steps t.frames t.given in
     let sends = c.finish.ensures t.frames t.numbered steps t.codes in
-    Counts-trans _ _ _ _ _ _ _ _ (bytes_of_steps (g.C.Coder.coding c.args.coder.now) steps) ((g.C.Coder.coding c.turns.coder).ending steps) c.turns.invariant.counts c.turns.invariant.same_room sends.count t.written (on_ok c.finish.result c.in-Ok-finish.field-0 sends.sent c.in-Ok-finish.is)
+    Counts-trans _ _ _ _ _ _ _ _ (bytes_of_coding (g.C.Coder.coding c.args.coder.now) steps) ((g.C.Coder.coding c.turns.coder).ending steps) c.turns.invariant.counts c.turns.invariant.same_room sends.count t.written (on_ok c.finish.result c.in-Ok-finish.field-0 sends.sent c.in-Ok-finish.is)
 
 pub returns-in-Err-finish-clause-ends : goal.returns-in-Err-finish-clause-ends
 returns-in-Err-finish-clause-ends g c = λ coding file coding_is begins.

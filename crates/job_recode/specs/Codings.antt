@@ -1,6 +1,6 @@
 -- What is written for the frames of a file: the steps of their plan in turn, each by the steps before it and by its own
 -- frame. Lists of steps have the last one first.
-use Rattle.std.specs.Prelude.{◌≡◌, ℕ, ◌-◌, ◌<◌, ◌^◌, true, List, [], ◌∷◌, ◌++◌, length, map, drop, get_or}
+use Rattle.std.specs.Prelude.{◌≡◌, ℕ, ◌-◌, ◌<◌, ◌^◌, true, List, [], ◌∷◌, ◌++◌, length, map, drop}
 use Rattle.mv_terms.specs.declared.frame_header.FrameHeader.{FrameHeader}
 use Rattle.y4m_frames.specs.Frames.{are_samples, frame_len}
 use Rattle.plan_window.specs.declared.summary.Summary.{Summary}
@@ -8,6 +8,7 @@ use Rattle.plan_window.specs.declared.summary.Step.{Step}
 use Rattle.plan_window.specs.Plan.{ahead, plan}
 use Rattle.plan_window.specs.Fits.{Planned, Fits}
 use Rattle.enc_guided.specs.Recoded.{FrameStep}
+use Rattle.enc_guided.specs.FileSteps.{step_of_frame}
 
 -- How the frames of a file are coded: the header of the file, what the plan has to know of a frame, what a step writes
 -- behind the steps before it, and what ends the output.
@@ -20,30 +21,27 @@ pub record Coding : Type 0 where
 abbrev pub summaries : Coding → List (List ℕ) → List Summary
 summaries k frames = map k.summary frames
 
--- the frame of each step
-abbrev pub frame_step : List (List ℕ) → Step → FrameStep
-frame_step frames s = record { step = s; frame = get_or frames s.frame [] }
-
+-- the steps with their frames
 abbrev pub frame_steps : List (List ℕ) → List Step → List FrameStep
-frame_steps frames steps = map (frame_step frames) steps
+frame_steps frames steps = map (step_of_frame frames) steps
 
 -- the steps of the plan of these frames
 abbrev pub steps_of : Coding → List (List ℕ) → List FrameStep
 steps_of k frames = frame_steps frames (plan ahead (summaries k frames))
 
 -- what steps write, in their order
-abbrev pub bytes_of_steps : Coding → List FrameStep → List ℕ
-bytes_of_steps k [] = []
-bytes_of_steps k (s ∷ before) = bytes_of_steps k before ++ k.bytes before s
+abbrev pub bytes_of_coding : Coding → List FrameStep → List ℕ
+bytes_of_coding k [] = []
+bytes_of_coding k (s ∷ before) = bytes_of_coding k before ++ k.bytes before s
 
 -- the whole stream of these frames
 abbrev pub recoded : Coding → List (List ℕ) → List ℕ
-recoded k frames = bytes_of_steps k (steps_of k frames) ++ k.ending (steps_of k frames)
+recoded k frames = bytes_of_coding k (steps_of k frames) ++ k.ending (steps_of k frames)
 
 -- what the first n steps of these frames write
 abbrev pub first_steps : Coding → List (List ℕ) → ℕ → List ℕ
 first_steps k frames n =
-    bytes_of_steps k (drop (length (steps_of k frames) - n) (steps_of k frames))
+    bytes_of_coding k (drop (length (steps_of k frames) - n) (steps_of k frames))
 
 -- ---- what a coder may rely on
 
