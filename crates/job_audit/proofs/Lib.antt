@@ -1,0 +1,5 @@
+mod AnchorLemmas
+mod ChainLemmas
+mod TextLemmas
+mod LineLemmas
+mod CoderLemmas

@@ -1,0 +1,4 @@
+pub mod Audit
+pub mod StepLines
+pub mod Laws
+pub mod Steps
