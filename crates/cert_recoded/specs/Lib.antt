@@ -1,0 +1,3 @@
+pub mod RecodedFile
+pub mod AuditedFile
+pub mod Laws
