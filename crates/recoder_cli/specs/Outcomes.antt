@@ -2,7 +2,7 @@
 -- definition a row for each form of the words.
 use Rattle.std.specs.Prelude.{◌≡◌, ⊤, ℕ, List, Option}
 use Rattle.std.specs.Option.{ForSome}
-use Rattle.std.specs.Io.KnownBytes.{IsAtEnd, Keeps}
+use Rattle.std.specs.Io.KnownBytes.{Appends, IsAtEnd, Keeps}
 use Rattle.mv_ends.specs.Causes.{Rose}
 use Rattle.mv_ends.specs.Ends.{Outcome}
 use Rattle.mv_ends.specs.Moves.{Inputs, input_of}
@@ -10,27 +10,35 @@ use Rattle.mv_terms.specs.declared.status.Status.{Status}
 use Rattle.job_decode.specs.Stream.{IsOutcome, IsDecodeStatus, AppendsTaken, TakesNear}
 use Rattle.cut_list.specs.Cut.{FailsToOpenCut, FailsToReadCut, IsCutStatus, cut_outcome}
 use Rattle.job_recode.specs.Outcome as recoding
-use Rattle.job_recode.specs.Fresh.{fresh_coding}
-use Rattle.recoder_cli.specs.Words.{Form, decode, cut, recode}
+use Rattle.job_recode.specs.ByRecords.{record_coding}
+use Rattle.job_audit.specs.StepLines.{audit_coding}
+use Rattle.cert_recoded.specs.RecodedFile.{IsRecoded}
+use Rattle.cert_recoded.specs.AuditedFile.{IsAudited}
+use Rattle.cert_recoded.specs.Laws.{IsDoneBy}
+use Rattle.recoder_cli.specs.Words.{Form, decode, cut, recode, audit}
 
 -- what a command answers and writes over these inputs
 abbrev pub IsOutcomeOf : Form → Inputs → Outcome Status → Type 0
 IsOutcomeOf (decode name) inputs outcome = IsOutcome (input_of inputs name) outcome
 IsOutcomeOf (cut list) inputs outcome = outcome ≡ cut_outcome inputs list
 IsOutcomeOf (recode name scale) inputs outcome =
-    outcome ≡ recoding.outcome_of (fresh_coding scale) (input_of inputs name)
+    outcome ≡ recoding.outcome_of (record_coding scale) (input_of inputs name)
+IsOutcomeOf (audit name) inputs outcome =
+    outcome ≡ recoding.outcome_of audit_coding (input_of inputs name)
 
 -- the statuses that a command ends with, whatever its inputs are
 abbrev pub IsStatusOf : Form → Status → Type 0
 IsStatusOf (decode name) answered = IsDecodeStatus answered
 IsStatusOf (cut list) answered = IsCutStatus answered
 IsStatusOf (recode name scale) answered = recoding.IsRecodeStatus answered
+IsStatusOf (audit name) answered = recoding.IsRecodeStatus answered
 
 -- What is left of the selected input where a command is done; `cut` reads each input no further than it needs.
 abbrev pub IsDoneOver : Form → Option Inputs → Option (List ℕ) → Type 0
 IsDoneOver (decode name) named rest = IsAtEnd rest
 IsDoneOver (cut list) named rest = ⊤
 IsDoneOver (recode name scale) named rest = ForSome named (λ inputs. IsAtEnd rest)
+IsDoneOver (audit name) named rest = ForSome named (λ inputs. IsAtEnd rest)
 
 -- An input of a command couldn't be opened: the faults of its name rose, and so much is written.
 abbrev pub FailsToOpen : Form → Option Inputs → (List ℕ → ℕ) → (List ℕ → ℕ) → Option (List ℕ)
@@ -39,9 +47,11 @@ FailsToOpen (decode name) named before now old new = Rose (before name) (now nam
 FailsToOpen (cut list) named before now old new = FailsToOpenCut list named before now old new
 FailsToOpen (recode name scale) named before now old new =
     Rose (before name) (now name) × Keeps old new
+FailsToOpen (audit name) named before now old new = Rose (before name) (now name) × Keeps old new
 
 -- An input of a command couldn't be read: the faults of its name rose, and what is written is known. After `decode` it is
--- just what is due to the bytes that were taken, after `recode` it begins the stream of the frames that lie within them.
+-- just what is due to the bytes that were taken, after `recode` it begins the stream of the frames that lie within them, and
+-- after `audit` their lines.
 abbrev pub FailsToRead : Form → Option Inputs → Option (List ℕ) → (List ℕ → ℕ) → (List ℕ → ℕ)
     → Option (List ℕ) → Option (List ℕ) → Type 0
 FailsToRead (decode name) named rest before now old new =
@@ -49,18 +59,34 @@ FailsToRead (decode name) named rest before now old new =
 FailsToRead (cut list) named rest before now old new = FailsToReadCut list named before now old new
 FailsToRead (recode name scale) named rest before now old new =
     Rose (before name) (now name)
-    × recoding.AppendsTaken (fresh_coding scale) name named rest old new
+    × recoding.AppendsTaken (record_coding scale) name named rest old new
+FailsToRead (audit name) named rest before now old new =
+    Rose (before name) (now name)
+    × recoding.AppendsTaken audit_coding name named rest old new
 
--- Memory was wanting: `decode` and `recode` take all of it before they write anything.
+-- Memory was wanting: all commands but `cut` take all of it before they write anything.
 abbrev pub LacksMemory : Form → Option (List ℕ) → Option (List ℕ) → Type 0
 LacksMemory (decode name) old new = Keeps old new
 LacksMemory (cut list) old new = ⊤
 LacksMemory (recode name scale) old new = Keeps old new
+LacksMemory (audit name) old new = Keeps old new
 
--- The output couldn't be written: `decode` and `recode` haven't taken their input far ahead of what was.
+-- The output couldn't be written: all commands but `cut` haven't taken their input far ahead of what was.
 abbrev pub FailsToWrite : Form → Option Inputs → Option (List ℕ) → Option (List ℕ) → Option (List ℕ)
     → Type 0
 FailsToWrite (decode name) named rest old new = TakesNear name named rest old new
 FailsToWrite (cut list) named rest old new = ⊤
 FailsToWrite (recode name scale) named rest old new =
-    recoding.TakesNear (fresh_coding scale) name named rest old new
+    recoding.TakesNear (record_coding scale) name named rest old new
+FailsToWrite (audit name) named rest old new =
+    recoding.TakesNear audit_coding name named rest old new
+
+-- What is promised of the output where a command is done, beyond its definition: `recode` writes a stream in which each
+-- intact picture has its original bytes, and `audit` the lines of the frames.
+abbrev pub IsPromised : Form → Inputs → Option (List ℕ) → Option (List ℕ) → Type 0
+IsPromised (decode name) inputs old new = ⊤
+IsPromised (cut list) inputs old new = ⊤
+IsPromised (recode name scale) inputs old new = (output : List ℕ) × Appends old new output
+    × IsDoneBy (IsRecoded scale) (input_of inputs name) output
+IsPromised (audit name) inputs old new = (output : List ℕ) × Appends old new output
+    × IsDoneBy IsAudited (input_of inputs name) output

@@ -10,6 +10,7 @@ pub data Form : Type 0 where
   decode : List ℕ → Form
   cut : List ℕ → Form
   recode : List ℕ → ℕ → Form
+  audit : List ℕ → Form
 
 -- the scale code where none is given
 abbrev pub default_scale : ℕ
@@ -22,6 +23,7 @@ named_form verb name =
     else if bytes_eq verb (codes "decode") then Some (decode name)
     else if bytes_eq verb (codes "cut") then Some (cut name)
     else if bytes_eq verb (codes "recode") then Some (recode name default_scale)
+    else if bytes_eq verb (codes "audit") then Some (audit name)
     else None
 
 -- a number that is a quantiser scale code
@@ -43,7 +45,7 @@ scaled_form verb name option =
     else if bytes_eq verb (codes "recode") then option_map (recode name) (scale_of option)
     else None
 
--- `decode NAME`, `cut LIST`, `recode NAME`, `recode NAME q=N`
+-- `decode NAME`, `cut LIST`, `recode NAME`, `recode NAME q=N`, `audit NAME`
 abbrev pub form_of : List (List ℕ) → Option Form
 form_of [] = None
 form_of (verb ∷ []) = None
@@ -56,6 +58,7 @@ abbrev pub IsLegal : Form → Type 0
 IsLegal (decode name) = ⊤
 IsLegal (cut list) = ⊤
 IsLegal (recode name scale) = IsScaleCode scale
+IsLegal (audit name) = ⊤
 
 -- the bytes of each word
 abbrev pub texts : {Z : Type 0} → List (String Z) → List (List ℕ)

@@ -22,7 +22,7 @@ ghost use Rattle.mv_ends.specs.Ends.{Ends, Outcome};
 ghost use Rattle.mv_terms.specs.Texts.{line_of};
 ghost use Rattle.mv_ends.specs.Endings.{ending_of};
 ghost use Rattle.recoder_cli.specs.Words.{form_of, texts};
-ghost use Rattle.recoder_cli.specs.Outcomes.{FailsToOpen, FailsToRead, FailsToWrite, IsDoneOver, IsOutcomeOf, IsStatusOf, LacksMemory};
+ghost use Rattle.recoder_cli.specs.Outcomes.{FailsToOpen, FailsToRead, FailsToWrite, IsDoneOver, IsOutcomeOf, IsPromised, IsStatusOf, LacksMemory};
 ghost use Rattle.recoder_cli.specs.Said.{IsSaid};
 
 pub use clean::run_clean;
@@ -66,6 +66,13 @@ pub fn run<S: Shelf, O: Sink, M: Sink>(
     ensures done { result ≡ Status.Done
         → ForSome (form_of (texts words.now)) (λ form.
         IsDoneOver form (S.named shelf.old) (S.rest shelf.new)) }
+
+    // Where `recode` is done, the output is a stream in which each intact picture has its original bytes, and all of a
+    // stream comes back where the frames are those that it decodes to, and all of them are certified; where `audit` is
+    // done, it is the lines of the frames.
+    ensures promised { result ≡ Status.Done
+        → ForSome (form_of (texts words.now)) (λ form. ForSome (S.named shelf.old) (λ inputs.
+        IsPromised form inputs (O.written out.old) (O.written out.new))) }
 
     // The words alone decide whether they are of no form, and then nothing is written. Otherwise only statuses of the
     // command come.

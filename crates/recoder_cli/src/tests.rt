@@ -1,4 +1,5 @@
 //! Runs over endpoints in memory: what each stream gives, and what stands where an endpoint fails.
+mod chains;
 mod cut;
 mod recode;
 

@@ -16,6 +16,8 @@ pub enum Command<'a> {
     Cut(&'a str),
     /// Codes the frames of this name, fresh pictures with this quantiser scale code.
     Recode(&'a str, u8),
+    /// Says of each frame of this name what `Recode` does with it.
+    Audit(&'a str),
 }
 
 /// The quantiser scale code where the words give none.
@@ -33,6 +35,7 @@ fn named<'a>(verb: &str, name: &'a str) -> Option<Command<'a>>
         "decode" => Some(Command::Decode(name)),
         "cut" => Some(Command::Cut(name)),
         "recode" => Some(Command::Recode(name, DEFAULT_SCALE)),
+        "audit" => Some(Command::Audit(name)),
         _ => None,
     }
 }

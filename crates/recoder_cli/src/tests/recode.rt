@@ -1,5 +1,8 @@
 //! Recodings of frames without records over endpoints in memory.
-use super::{GROUP, INTRA, SEQUENCE, SLICE, coded, grey_frames, inputs, words};
+use super::chains::given;
+use super::{
+    FLAGS, GROUP, INTRA, SEQUENCE, SLICE, ZEROS, coded, grey_frames, inputs, told_at, words,
+};
 use crate::run;
 use mv_ends::{CleanShelf, MemSink, Shelf};
 use mv_terms::{FrameFault, Status};
@@ -124,6 +127,17 @@ fn the_zero_bytes_of_a_tail_are_written(rt: HostRuntime) -> Result<(), Fail> {
     assert_eq!(rt; out.bytes().len(), 160);
     assert_eq!(rt; out.bytes().get(..131), grey.get(..131));
     assert_eq!(rt; out.bytes().get(131..), Some(LAST_SLICE));
+    // the picture is certified with its tail, and not without it; both give the tail again
+    let whole = out.bytes().to_vec(alloc)?;
+    for (len, flags, zeros) in [(160, 0x01, 1), (159, 0x00, 0)] {
+        let frames = given(&rt, alloc, "decode", &whole[..len])?;
+        assert_eq!(rt; told_at(&frames, FLAGS), Some(flags));
+        assert_eq!(rt; told_at(&frames, ZEROS), Some(zeros));
+        assert_eq!(rt;
+            given(&rt, alloc, "recode", &frames)?.as_slice(),
+            whole.as_slice()
+        );
+    }
     Ok(())
 }
 
