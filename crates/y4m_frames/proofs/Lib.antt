@@ -13,5 +13,7 @@ pub mod HeaderExits
 pub mod FileLaws
 pub mod OnlyLaws
 pub mod HeaderLaws
+pub mod LegalHeader
+pub mod FrontLaws
 pub mod PartLemmas
 pub mod BehindLaws

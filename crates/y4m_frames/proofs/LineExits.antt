@@ -38,6 +38,10 @@ told_end s a rest None l z =
     ⊎_elim (λ (g : line_limit ≤ length a). absurd (omega arith)) (λ (e : p.behind ≡ []). p.whole ∙ ap (λ t. t ++ p.behind) none ∙ e) (end_or_enough s a rest p l.all)
 told_end s a rest (Some k) l z = absurd (let i = line_is line_limit a k l.is in omega (arith, i.within))
 
+pub at_end : (a : List ℕ) (rest : Option (List ℕ)) (found : Option ℕ) → line_within line_limit a ≡ found → IfNone found ((line_limit ≤ length a) ⊎ IsAtEnd rest) → length a ≡ 0 → IsAtEnd rest
+at_end a rest None is all z = ⊎_elim (λ (g : line_limit ≤ length a). absurd (omega arith)) (λ (e : IsAtEnd rest). e) all
+at_end a rest (Some k) is all z = absurd (let i = line_is line_limit a k is in omega (arith, i.within))
+
 pub none_late : (s a : List ℕ) (rest : Option (List ℕ)) (n room : ℕ) → Looked s a rest None → room < line_limit → room < length a → (len : ℕ) → next_frame len n room s ≡ Err (TooLong n)
 none_late s a rest n room l few more len =
     let p = parts s a rest l.same in

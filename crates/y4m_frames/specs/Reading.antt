@@ -8,7 +8,7 @@ use Rattle.y4m_frames.specs.declared.halt.Halt.TheVariants.{Fault, Read, NoMemor
 use Rattle.mv_terms.specs.Ranges.{IsFrameHeader}
 use Rattle.y4m_frames.specs.FrameFile.{header_line}
 use Rattle.y4m_frames.specs.Header.{file_header}
-use Rattle.y4m_frames.specs.Frames.{file_limit, frame_len, next_frame, IsFrame, AreFrames, IsHeaderLine, Holds, file_of, behind_frames, frames_left}
+use Rattle.y4m_frames.specs.Frames.{File, file_limit, frame_len, next_frame, IsFrame, AreFrames, IsHeaderLine, Holds, file_of, behind_frames, frames_left}
 
 -- a reader: the header line, how many frames it handed out, how many bytes more may belong to the file, what it has read
 -- ahead, and the error that it answers from now on
@@ -98,6 +98,23 @@ OnlyFrameFilesAreRead = (bytes line : List ℕ) (h : FrameHeader) (frames : List
     file_of bytes
     ≡ Ok (record { line = line; header = h; frames = record { frames = frames; fault = None } })
     → Holds bytes line h frames
+
+-- What is read of any bytes stands in front of them: a header line, and the frames in front of their end or of their
+-- first fault, which lie within the bytes that may belong to a file.
+pub record HasInFront (bytes : List ℕ) (file : File) : Type 0 where
+  pub taken : List ℕ
+  pub rest : List ℕ
+  pub parts : bytes ≡ file.line ++ (taken ++ rest)
+  pub header : IsHeaderLine file.line file.header
+  pub frames_are : AreFrames (frame_len file.header) file.frames.frames taken
+  pub within : length file.line + length taken ≤ file_limit
+
+abbrev pub FramesAreInFront : Type 0
+FramesAreInFront = (bytes : List ℕ) (file : File) → file_of bytes ≡ Ok file → HasInFront bytes file
+
+-- The header of a header line is legal.
+abbrev pub HeadersAreLegal : Type 0
+HeadersAreLegal = (line : List ℕ) (h : FrameHeader) → IsHeaderLine line h → IsFrameHeader h
 
 -- The header line that is written is read as its header.
 abbrev pub WrittenHeadersAreRead : Type 0

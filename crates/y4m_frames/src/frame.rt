@@ -1,7 +1,7 @@
 //! Reads a frame of what is left of a frame file.
 ghost use Rattle.std.specs.Prelude.{◌≡◌, ◌≢◌, Err, ◌+◌, ◌-◌, ◌*◌, ◌<◌, ◌≤◌, ◌^◌, ℕ, List, [], ◌++◌, length, take, drop, min, IfOk, IfNone, IfSome, OnOk, OnErr, IsErrOf};
 ghost use Rattle.std.specs.Option.{ForSome};
-ghost use Rattle.std.specs.Io.KnownBytes.{Consumes, prepend_known};
+ghost use Rattle.std.specs.Io.KnownBytes.{Consumes, IsAtEnd, prepend_known};
 ghost use Rattle.mv_ends.specs.Causes.{RoseForSelected};
 ghost use Rattle.mv_ends.specs.Shelves.{KeepsShelf};
 ghost use Rattle.y4m_frames.specs.Frames.{is_frame_line, are_samples};
@@ -30,6 +30,7 @@ pub(crate) fn take_frame<S: Shelf>(
     ensures ends { IfOk result (λ found. IfNone found
         (Consumes (prepend_known ahead.old (S.rest shelf.old))
         (prepend_known ahead.new (S.rest shelf.new)) [])) }
+    ensures at_end { IfOk result (λ found. IfNone found (IsAtEnd (S.rest shelf.new))) }
     ensures told { ForSome (prepend_known ahead.old (S.rest shelf.old)) (λ s. FrameTells (length
         samples.old) count room s result) }
     ensures part { IsErrOf result Halt.Read → StopsShort (length samples.old) count room
@@ -91,6 +92,7 @@ fn take_line<S: Shelf>(
     ensures ends { IfOk result (λ found. IfNone found
         (Consumes (prepend_known ahead.old (S.rest shelf.old))
         (prepend_known ahead.new (S.rest shelf.new)) [])) }
+    ensures at_end { IfOk result (λ found. IfNone found (IsAtEnd (S.rest shelf.new))) }
     ensures told { ForSome (prepend_known ahead.old (S.rest shelf.old))
         (λ s. LineTells count room s result) }
     ensures most { length ahead.new ≤ 65536 }

@@ -18,6 +18,6 @@ mod write;
 
 pub use ahead::read_all;
 pub use halt::Halt;
-pub use reader::{FrameReader, behind_law, holds_law, stands_law, written_law};
+pub use reader::{FrameReader, behind_law, header_law, holds_law, stands_law};
 pub use words::{first_word, number};
 pub use write::{write_frame, write_header};

@@ -1,13 +1,13 @@
 //! Frame files are read, frame by frame.
 ghost use Rattle.std.specs.Prelude.{◌≡◌, ◌≢◌, ◌+◌, ◌*◌, ◌^◌, ◌≤◌, ◌<◌, ℕ, List, [], ◌∷◌, ◌++◌, length, true, false, None, Some, Err, IfOk, IfErr, OnOk, IsErrOf, IsTrue};
 ghost use Rattle.std.specs.Option.{ForSome};
-ghost use Rattle.std.specs.Io.KnownBytes.{Consumes};
+ghost use Rattle.std.specs.Io.KnownBytes.{Consumes, IsAtEnd};
 ghost use Rattle.mv_ends.specs.Causes.{RoseForSelected};
 ghost use Rattle.mv_ends.specs.Shelves.{KeepsShelf};
 ghost use Rattle.y4m_frames.specs.declared.halt.Halt.{Halt};
 ghost use Rattle.y4m_frames.specs.declared.halt.Halt.TheVariants as halts;
 ghost use Rattle.y4m_frames.specs.Frames.{frame_len};
-ghost use Rattle.y4m_frames.specs.Reading.{Reading, left_of, StandsFor, Starts, HasNoHeader, Hands, NextTells, StandsForItsFrames, FrameFilesAreRead, OnlyFrameFilesAreRead, WrittenHeadersAreRead};
+ghost use Rattle.y4m_frames.specs.Reading.{Reading, left_of, StandsFor, Starts, HasNoHeader, Hands, NextTells, StandsForItsFrames, FrameFilesAreRead, FramesAreInFront, HeadersAreLegal, OnlyFrameFilesAreRead, WrittenHeadersAreRead};
 ghost use Rattle.y4m_frames.specs.Behind.{IsBehind, AnswersBehind, HeaderFaultsAreFaults, BeginsItsFrames, FramesEndWithin, ReadsNear};
 
 use crate::ahead::Ahead;
@@ -109,9 +109,10 @@ impl FrameReader {
         ensures hands { IfOk result (λ some. some ≡ true → Hands self.old self.new
             (S.rest shelf.old) (S.rest shelf.new) frame.new) }
 
-        // At the end nothing is taken.
+        // At the end nothing is taken, and the shelf has nothing left.
         ensures ends { IfOk result (λ some. some ≡ false → Consumes
             (left_of self.old (S.rest shelf.old)) (left_of self.new (S.rest shelf.new)) []) }
+        ensures at_end { IfOk result (λ some. some ≡ false → IsAtEnd (S.rest shelf.new)) }
 
         // Behind the first frames of a file it answers the next one, the end, or the first fault.
         ensures behind { (file : List ℕ) (frames : List (List ℕ))
@@ -177,13 +178,16 @@ pub fn behind_law()
     ensures near { ReadsNear }
 {}
 
-/// A frame file is read as what it holds, and only a frame file is read without a fault.
+/// A frame file is read as what it holds, and only a frame file is read without a fault. Of any bytes, what is read stands
+/// in front of them.
 pub fn holds_law()
     ensures read { FrameFilesAreRead }
     ensures only { OnlyFrameFilesAreRead }
+    ensures front { FramesAreInFront }
 {}
 
-/// The header line that `write_header` writes is read as its header.
-pub fn written_law()
-    ensures { WrittenHeadersAreRead }
+/// The header line that `write_header` writes is read as its header, and a header that is read is legal.
+pub fn header_law()
+    ensures written { WrittenHeadersAreRead }
+    ensures legal { HeadersAreLegal }
 {}

@@ -2,7 +2,7 @@ use Rattle.std.proofs.Common.{◌∙◌, ◌≤◌, ◌+◌, ◌⊎◌, inl, inr
 use Rattle.std.specs.Io.KnownBytes.{prepend_known}
 use Rattle.y4m_frames.specs.Frames.{is_frame_line, line_limit}
 use Rattle.y4m_frames.specs.Steps.{TakesLine}
-use Rattle.y4m_frames.proofs.LineExits.{looked, not_empty, told_end, none_late, none_bad, some_late, some_bad, some_there, takes_line}
+use Rattle.y4m_frames.proofs.LineExits.{at_end, looked, not_empty, told_end, none_late, none_bad, some_late, some_bad, some_there, takes_line}
 use Rattle.y4m_frames.proofs.NextLemmas.{no_frames, ended}
 use Rattle.y4m_frames.proofs.frame.take_line.Goals as goal
 use Rattle.y4m_frames.proofs.frame.take_line.Goals.{else-room-via-then-room+else-room-held, else-room-via-else-room}
@@ -74,3 +74,8 @@ returns-clause-line g c =
     let rest = g.S.Shelf.rest c.line.new.shelf in
     subst (λ (d : List ℕ). TakesLine (c.in-Some.text + 1) c.args.room old (prepend_known d rest)) (sym c.skip.ensures)
     (takes_line old c.line.new.self rest c.args.room c.in-Some.text e.same (e.found ∙ c.in-Some.is) c.if-room-text.false (ap (λ (x : List ℕ). is_frame_line (take c.in-Some.text x)) (sym c.bytes-held.ensures.value) ∙ sym c.is_frame_line.ensures ∙ c.if-not-is_frame_line.false))
+
+pub returns-then-is_empty-clause-at_end : goal.returns-then-is_empty-clause-at_end
+returns-then-is_empty-clause-at_end g c =
+    let e = c.in_ok-found.ensures in
+    at_end c.line.new.self (g.S.Shelf.rest c.line.new.shelf) c.in_ok-found.found e.found e.all (ap length (sym c.bytes-held.ensures.value) ∙ eqb-true (length c.bytes-held.result.now) 0 (sym c.is_empty.ensures ∙ c.if-is_empty.true))

@@ -12,7 +12,7 @@ use Rattle.mv_terms.specs.declared.status.FrameFault.{FrameFault}
 use Rattle.mv_terms.specs.declared.status.FrameFault.TheVariants.{BadHeader, BadSize}
 use Rattle.y4m_frames.specs.Lines.{words, number, is_digit}
 use Rattle.y4m_frames.specs.Header.{◌>>=◌, Token, absent, once, often, optional, needed, token, rate, known_rate, is_colon, fields, kind, says, said, is_right_size, is_first_word, header, header_by, header_of}
-use Rattle.y4m_frames.specs.Frames.{IsHeaderLine}
+use Rattle.y4m_frames.specs.Reading.{HeadersAreLegal}
 
 and_parts : (a b : Bool) → a && b ≡ true → (a ≡ true) × (b ≡ true)
 and_parts true b h = (refl, h)
@@ -212,7 +212,7 @@ header_by_is (Some s) h said_is e =
     subst (λ (x : FrameHeader). IsFrameHeader x) (ok_same (Ok (header s)) (header s) h refl b.1) (header_is (header s) (said_is s refl) (is_sized s b.0))
 
 -- The header of a header line is legal.
-pub legal_header : (line : List ℕ) (h : FrameHeader) → IsHeaderLine line h → IsFrameHeader h
+pub legal_header : HeadersAreLegal
 unfolding header_of
 legal_header line h is =
     let b = if_ok (is_first_word (words is.text)) (header_by (said is.text)) BadHeader h is.means in
