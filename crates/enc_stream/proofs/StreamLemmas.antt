@@ -17,10 +17,10 @@ use Rattle.rec_legal.specs.Conditions.{file_size}
 use Rattle.plan_window.specs.Fits.{IsInGroup, Planned, since_anchor}
 use Rattle.plan_window.specs.Plan.{ahead}
 use Rattle.enc_glue.specs.Joined.{with_end, written}
-use Rattle.enc_guided.specs.Recoded.{CodedStep, FrameStep, Recoding, Target, bytes_of_steps, coded_step, coded_steps, ending_of, has_end, in_force}
+use Rattle.enc_guided.specs.Recoded.{CodedStep, FrameStep, Recoding, Target, bytes_of_steps, coded_step, coded_steps, ending_of, has_end, in_force, pictures_of_steps}
 use Rattle.enc_guided.specs.FileSteps.{stream_of_steps}
 use Rattle.enc_guided.specs.Stands.{AreSteps, IsStep, last_zeros, planned_by, zeros_by}
-use Rattle.enc_stream.specs.Stream.{AreAnchorsWhereRecorded, IsAnchorWhereRecorded, IsStreamOf, NoStepsAreNothing, StepsAreStream, StepsHaveTheirPictures}
+use Rattle.enc_stream.specs.Stream.{AreAnchorsWhereRecorded, IsAnchorWhereRecorded, IsStreamOf, coded_by_steps, NoStepsAreNothing, StepsAreStream, StepsHaveTheirPictures}
 use Rattle.enc_stream.proofs.FrontLemmas.{IsPart, Laws}
 use Rattle.enc_stream.proofs.UnitLemmas.{AreAccepted, Standing, lists_of, since, since_more}
 use Rattle.enc_stream.proofs.StandLemmas.{stand_first, stand_next}
@@ -121,8 +121,8 @@ end_accepted : (end : Option ℕ) (before : Option Heads) (u : CodedUnit) → Ac
 unfolding after
 end_accepted end before u a = record { lists_are = refl; headers = a.headers; head = a.head; slices = a.slices }
 
-stands_as_stream : (laws : Laws) (size : CodedSize) (done : List CodedStep) → Standing size done → IsStreamOf done (stream_of_steps done)
-stands_as_stream laws size done s =
+stands_as_stream : (laws : Laws) (size : CodedSize) (done : List CodedStep) → Standing size done → pictures_of_steps done ≡ pictures_of (coded_by_steps done) → IsStreamOf done (stream_of_steps done)
+stands_as_stream laws size done s pictures =
     let end : Option ℕ = last_zeros done in
     let last : CodedUnit = ended end s.last in
     let others : List UnitLists = lists_of s.before in
@@ -138,7 +138,8 @@ stands_as_stream laws size done s =
           subst (λ (x : List ℕ). HasUnitsIn room x judgement) bytes
           (subst (λ f. JudgedTo [] (f.units) (f.refusal) judgement) (sym found) judged);
       coded = s.coded;
+      decoded = ap pictures_of s.coded ∙ sym pictures;
     }
 
 pub steps_are_stream : Laws → StepsAreStream
-steps_are_stream laws r s before is_header is_scale f none = stands_as_stream laws (file_size r.header) (coded_steps r (s ∷ before)) (all_stand laws r is_header is_scale s before f none)
+steps_are_stream laws r s before is_header is_scale f none = stands_as_stream laws (file_size r.header) (coded_steps r (s ∷ before)) (all_stand laws r is_header is_scale s before f none) (steps_have_their_pictures r (s ∷ before))

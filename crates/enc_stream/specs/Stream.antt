@@ -22,12 +22,13 @@ coded_by_units units = map (λ (u : CodedUnit). u.picture) units
 abbrev pub coded_by_steps : List CodedStep → List CodedPicture
 coded_by_steps steps = map (λ (s : CodedStep). s.coded) steps
 
--- The bytes are a stream, no unit of which is refused, and whose pictures are those of the steps.
+-- The bytes are a stream, no unit of which is refused, whose pictures are coded as those of the steps and decode to them.
 pub record IsStreamOf (steps : List CodedStep) (bytes : List ℕ) : Type 0 where
   pub units : List CodedUnit
   pub in_profile : (room : ℕ) → length bytes ≤ room
       → HasUnitsIn room bytes (record { units = units; refusal = None })
   pub coded : coded_by_units units ≡ coded_by_steps steps
+  pub decoded : pictures_of (coded_by_units units) ≡ pictures_of_steps steps
 
 -- A frame with an anchor record is an anchor, as in each plan.
 abbrev pub IsAnchorWhereRecorded : Recoding → FrameStep → Type 0
