@@ -1,5 +1,5 @@
 -- The induction: over what makes a frame intact, its step gives the picture back.
-use Rattle.std.proofs.Common.{◌≡◌, ℕ, Bool, true, false, List, [], get_or, Option, None, Some, option_map, if◌then◌else◌, refl, sym, ap, ap₂, ◌∙◌, subst}
+use Rattle.std.proofs.Common.{◌≡◌, ℕ, Bool, true, false, List, [], get_or, Option, None, Some, option_map, if◌then◌else◌, refl, sym, ap, ◌∙◌, subst}
 use Rattle.std.proofs.lemmas.Bool.{false≢true}
 use Rattle.std.proofs.lemmas.Option.{get_or_from_slice_get}
 use Rattle.mv_terms.specs.declared.head.PicType.{PicType}
@@ -9,48 +9,36 @@ use Rattle.mv_terms.specs.PicTypes.{is_anchor, is_i, is_b}
 use Rattle.mv_terms.specs.Order.{forward_reference, backward_reference}
 use Rattle.mv_planes.specs.Planes.{Planes}
 use Rattle.mv_planes.specs.References.{DecodedPicture, ReferencesAreThoseOfTheOrder, or_grey}
-use Rattle.mv_recon.specs.Pictures.{PicturesHaveTheirSamples}
-use Rattle.plan_window.specs.declared.summary.Mode.{Mode}
 use Rattle.plan_window.specs.declared.summary.Mode.TheVariants.{Guided}
 use Rattle.plan_window.specs.declared.summary.Step.{Step}
 use Rattle.plan_window.specs.Plan.{ahead, mode_at}
 use Rattle.plan_window.specs.Fits.{PlanFits, PlanRefersToNearest, step_type}
-use Rattle.rec_legal.specs.FoundRecord.{FoundRecord}
-use Rattle.rec_legal.specs.Laws.{FoundIsFound}
 use Rattle.rec_slot.specs.Directions.{uses_forward}
 use Rattle.cert_picture.specs.Records.{is_certified}
-use Rattle.cert_picture.specs.RecordLaws.{PictureComesBack}
 use Rattle.cert_picture.specs.FrameFileOf.{frames_of, pictures_in}
-use Rattle.cert_found.specs.RecordLaw.{RecordIsFound}
-use Rattle.enc_guided.specs.Recoded.{CodedStep, Recoding, guide_by, pictures_of_steps, source_in}
+use Rattle.enc_guided.specs.Recoded.{Recoding, pictures_of_steps}
 use Rattle.enc_guided.specs.FileSteps.{step_of_frame, summaries_in}
 use Rattle.cert_chains.specs.Planned.{anchor_in, nearest_anchor, group_anchor}
 use Rattle.cert_chains.specs.Intact.{StreamPicture, type_in_stream, IsAccepted, forward_in_stream, backward_in_stream, uses_forward_in_stream, frame_in_stream, parts_in_stream, Holds, Intact, HasForward, HasBackward}
 use Rattle.cert_chains.specs.Intact.Intact.{intact}
 use Rattle.cert_chains.specs.Intact.HasForward.{unused, forward_kept, forward_missing}
 use Rattle.cert_chains.specs.Intact.HasBackward.{not_b, backward_kept}
-use Rattle.cert_chains.specs.ComesBack.{CameBack, glue_before}
+use Rattle.cert_chains.specs.ComesBack.{AreSameUsed, CameBack, glue_before, references_at}
 use Rattle.cert_chains.proofs.OptionLemmas.{some_from, none_from}
 use Rattle.cert_chains.proofs.ReferenceLemmas.{forward_all, backward_all}
 use Rattle.cert_chains.proofs.StreamLemmas.{decoded_in_stream, forward_picture, backward_picture, forward_accepted, backward_accepted}
-use Rattle.cert_chains.proofs.FoundLemmas.{IsByRecords, record_in_stream, finds_record, summary_there, is_found}
+use Rattle.cert_chains.proofs.FoundLemmas.{IsByRecords, summary_there}
 use Rattle.cert_chains.proofs.LinkLemmas.{is_guided}
 use Rattle.cert_chains.proofs.ChainLemmas.{anchor_by_record}
-use Rattle.cert_chains.proofs.SourceLemmas.{source_is}
-use Rattle.cert_chains.proofs.UseLemmas.{AreSameUsed}
-use Rattle.cert_chains.proofs.StepLemmas.{StepLaws, references_at, step_back, step_for, step_is}
+use Rattle.cert_chains.proofs.StepLaws.{RecordLaws, step_by_record}
 use Rattle.cert_chains.proofs.PlaceLemmas.{IsPlace, StepBehind, backward_decoded, backward_near, behind, coded_at, coded_before, decoded_at, forward_decoded, forward_near, frame_at, places_before, step_there, type_at}
 
 -- what lower layers say
 pub record LowerLaws : Type 0 where
-  pub record_found : RecordIsFound
-  pub found : FoundIsFound
-  pub source : PictureComesBack
-  pub samples : PicturesHaveTheirSamples
+  pub records : RecordLaws
   pub references : ReferencesAreThoseOfTheOrder
   pub fits : PlanFits
   pub refers : PlanRefersToNearest
-  pub step : StepLaws
 
 not_i : (t : PicType) (decisions : List Decision) → uses_forward t decisions ≡ true → is_i t ≡ false
 not_i I decisions e = absurd (false≢true e)
@@ -72,7 +60,7 @@ type_by anchor B is e = ap (λ (b : Bool). if b then P else B) (is.of_b refl)
 module _ (laws : LowerLaws) (r : Recoding) (frames : List (List ℕ)) (by : IsByRecords r) where
   of_plan : (i : ℕ) (p : StreamPicture) → IsAccepted p → Holds r frames i p → is_certified (parts_in_stream p) ≡ true → HasBackward r frames i p → IsOfPlan (anchor_in r frames i) (type_in_stream p)
   of_plan i p are held is bwd = record {
-    of_p = λ e. anchor_by_record r frames i _ (summary_there laws.record_found r frames i p by are held is) (ap is_anchor e);
+    of_p = λ e. anchor_by_record r frames i _ (summary_there laws.records.record_found r frames i p by are held is) (ap is_anchor e);
     of_b = λ e. by_b bwd e;
   }
     where
@@ -102,13 +90,13 @@ module _ (laws : LowerLaws) (r : Recoding) (frames : List (List ℕ)) (by : IsBy
       → (references_at p (coded_before r frames h.before)).forward ≡ grey_or p (option_map (decoded_at r frames) (forward_reference type_at (type_in_stream p) (behind h.before)))
   forward_now p h at e =
       (laws.references (type_in_stream p) p.unit.picture.head.mb_wide p.unit.picture.head.mb_high (pictures_of_steps (coded_before r frames h.before))).forward e
-      ∙ ap (grey_or p) (forward_decoded laws.fits laws.found r frames by (type_in_stream p) h at)
+      ∙ ap (grey_or p) (forward_decoded laws.fits laws.records.found r frames by (type_in_stream p) h at)
 
   backward_now : (p : StreamPicture) (h : StepBehind) → IsPlace r frames h → type_in_stream p ≡ B
       → (references_at p (coded_before r frames h.before)).backward ≡ grey_or p (option_map (decoded_at r frames) (backward_reference type_at (type_in_stream p) (behind h.before)))
   backward_now p h at e =
       (laws.references (type_in_stream p) p.unit.picture.head.mb_wide p.unit.picture.head.mb_high (pictures_of_steps (coded_before r frames h.before))).backward (ap is_b e)
-      ∙ ap (grey_or p) (backward_decoded laws.fits laws.found r frames by (type_in_stream p) h at)
+      ∙ ap (grey_or p) (backward_decoded laws.fits laws.records.found r frames by (type_in_stream p) h at)
 
   -- each step of frame a decodes to this picture
   abbrev Gives : ℕ → StreamPicture → Type 0
@@ -153,20 +141,14 @@ module _ (laws : LowerLaws) (r : Recoding) (frames : List (List ℕ)) (by : IsBy
   comes_back i p are held is fwd bwd forward backward h at frame =
       let s = step_of_frame frames h.step in
       let before = coded_before r frames h.before in
-      let own : Option FoundRecord = Some (record_in_stream p) in
       let plan = of_plan i p are held is bwd in
-      let there = is_found laws.record_found laws.found p are is in
       let bytes : s.frame ≡ (frame_in_stream p).samples =
       ap (λ (k : ℕ). get_or frames k []) frame ∙ get_or_from_slice_get frames i (frame_in_stream p).samples [] held.frame in
-      let find : r.find s.frame ≡ own = ap r.find bytes ∙ finds_record laws.record_found r frames i p by are held is in
       let mode : s.step.mode ≡ Guided =
-      ap (λ (x : Step). x.mode) (step_there r frames h at) ∙ ap (mode_at ahead (summaries_in r frames)) frame ∙ is_guided laws.record_found r frames by i p are held is fwd bwd in
-      let whole : coded_at r frames h ≡ step_for r s own own before =
-      step_is r s before ∙ ap₂ (λ (o : Option FoundRecord) (m : Mode). step_for r s o (guide_by m o) before) find mode in
-      let source = ap (source_in r.header) bytes ∙ source_is laws.step.legal laws.samples laws.source r frames i p by are held there in
+      ap (λ (x : Step). x.mode) (step_there r frames h at) ∙ ap (mode_at ahead (summaries_in r frames)) frame ∙ is_guided laws.records.record_found r frames by i p are held is fwd bwd in
       let same : AreSameUsed p.unit.picture.head p.unit.picture.decisions (references_at p before) (parts_in_stream p).references =
       record { forward = forward plan h at frame; backward = backward plan h at frame } in
-      subst (λ (c : CodedStep). CameBack p (glue_before r s p before) c) (sym whole) (step_back laws.step r s before p are there is source same)
+      step_by_record laws.records r s before p by are held.size bytes is mode same
 
   -- ---- the induction
 

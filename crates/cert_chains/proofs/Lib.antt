@@ -10,6 +10,7 @@ pub mod OrderLemmas
 mod SourceLemmas
 mod UseLemmas
 mod StepLemmas
+mod StepLaws
 pub mod PlaceLemmas
 mod BackLemmas
 mod KeptLemmas

@@ -9,7 +9,7 @@ use Rattle.mv_terms.specs.declared.macroblock.MacroLevels.{MacroLevels}
 use Rattle.mv_terms.specs.CodedPicture.{CodedPicture, pic_of}
 use Rattle.mv_bits.specs.Zeros.{zero_bytes}
 use Rattle.mv_planes.specs.Planes.{Planes}
-use Rattle.mv_planes.specs.References.{DecodedPicture, References, references}
+use Rattle.mv_planes.specs.References.{DecodedPicture, References}
 use Rattle.mv_slices.specs.Slices.{Slices}
 use Rattle.mv_slices.specs.Canonical.{canonical_slices, canonical_tail}
 use Rattle.mv_recon.specs.Decoded.{decoded_behind}
@@ -21,11 +21,11 @@ use Rattle.cert_picture.specs.Records.{are_slices_of, is_certified}
 use Rattle.cert_picture.specs.RecordLaws.{CertifiedComesFromSamples, ComesFromSamples}
 use Rattle.cert_picture.specs.FrameFileOf.{frame_behind, frames_of, pictures_in}
 use Rattle.enc_guided.specs.Recoded.{CodedStep, Front, FrameStep, Recoding, bytes_with, coded_step, coded_with, front_of, guide_by, guided_front, levels_of, pictures_of_steps, source_in, step_by, target_of}
-use Rattle.cert_chains.specs.Intact.{StreamPicture, type_in_stream, IsAccepted, frame_in_stream, parts_in_stream}
-use Rattle.cert_chains.specs.ComesBack.{CameBack, glue_before, original}
+use Rattle.cert_chains.specs.Intact.{StreamPicture, IsAccepted, frame_in_stream, parts_in_stream}
+use Rattle.cert_chains.specs.ComesBack.{AreSameUsed, CameBack, glue_before, original, references_at}
 use Rattle.cert_chains.proofs.FoundLemmas.{record_in_stream, returned}
 use Rattle.cert_chains.proofs.SourceLemmas.{Found}
-use Rattle.cert_chains.proofs.UseLemmas.{AreSameUsed, agree_for}
+use Rattle.cert_chains.proofs.UseLemmas.{agree_for}
 
 -- ---- a step with what is found in its frame, and what it is coded by
 
@@ -62,9 +62,6 @@ larger : (z t : ℕ) → t ≤ z → max z t ≡ z
 larger z t h = omega arith
 
 -- ---- the step
-
-abbrev pub references_at : StreamPicture → List CodedStep → References
-references_at p before = references (type_in_stream p) p.unit.picture.head.mb_wide p.unit.picture.head.mb_high (pictures_of_steps before)
 
 decoded_is : (p : StreamPicture) → (frame_in_stream p).decoded ≡ decoded_behind (pictures_in (frames_of p.before)) p.unit.picture
 unfolding frame_behind
