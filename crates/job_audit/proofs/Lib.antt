@@ -2,4 +2,4 @@ mod AnchorLemmas
 mod ChainLemmas
 mod TextLemmas
 mod LineLemmas
-mod CoderLemmas
+mod FileLemmas

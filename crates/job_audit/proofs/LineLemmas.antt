@@ -12,8 +12,7 @@ use Rattle.enc_guided.specs.FileSteps.{summaries_in}
 use Rattle.cert_chains.specs.Planned.{found_at}
 use Rattle.cert_chains.specs.Chains.{has_chain, is_flagged, says_certified}
 use Rattle.job_audit.specs.declared.line.Line.{Line}
-use Rattle.job_audit.specs.Audit.{audit_line, certified_word, first_lines, line_text, said_by, type_word}
-use Rattle.job_audit.specs.Laws.{SaysChain}
+use Rattle.job_audit.specs.Audit.{SaysChain, audit_line, certified_word, first_lines, line_text, said_by, type_word}
 
 -- ---- chains
 

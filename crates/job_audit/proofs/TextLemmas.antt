@@ -11,7 +11,7 @@ use Rattle.enc_guided.specs.Recoded.{Recoding, FrameStep}
 use Rattle.enc_guided.specs.FileSteps.{step_of_frame, summary_in, summaries_in}
 use Rattle.cert_chains.specs.Planned.{anchor_in}
 use Rattle.cert_chains.specs.Chains.{has_chain}
-use Rattle.job_recode.specs.Codings.{bytes_of_coding, recoded, steps_of}
+use Rattle.job_coding.specs.Codings.{bytes_of_coding, output_of, steps_of}
 use Rattle.job_audit.specs.declared.line.Line.{Line}
 use Rattle.job_audit.specs.Audit.{audit_line, audit_text, first_lines, line_text, said_by}
 use Rattle.job_audit.specs.StepLines.{audit_by, step_has_chain, step_line, waiting_line, waiting_text}
@@ -108,7 +108,7 @@ none_waits r frames zero e = refl
 none_waits r frames (suc n) e = ap (λ (b : Bool). cond b [] (group_lines r frames n ++ line_at r frames n)) (last_is_anchor (summaries_in r frames) n (omega (arith, e, length-map frames (summary_in r))))
 
 -- the audit of the frames
-pub in_order : (r : Recoding) (frames : List (List ℕ)) → recoded (audit_by r) frames ≡ audit_text r frames
+pub in_order : (r : Recoding) (frames : List (List ℕ)) → output_of (audit_by r) frames ≡ audit_text r frames
 in_order r frames =
     let order = coding_order (anchor_in r frames) in
     let is : steps_of (audit_by r) frames ≡ steps r frames (order (length frames)) =

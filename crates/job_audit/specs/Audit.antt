@@ -1,5 +1,5 @@
 -- The audit of a frame file: a line for each frame, which says what record is found in it and how it is coded.
-use Rattle.std.specs.Prelude.{ℕ, zero, suc, Bool, true, false, List, [], ◌++◌, length, codes, decimal, Option, option_map}
+use Rattle.std.specs.Prelude.{◌≡◌, ℕ, zero, suc, Bool, true, false, List, [], ◌++◌, length, codes, decimal, Option, option_map}
 use Rattle.std.specs.Option.{option_map_or}
 use Rattle.mv_terms.specs.declared.head.PicType.{PicType}
 use Rattle.mv_terms.specs.declared.head.PicType.TheVariants as pic
@@ -79,3 +79,12 @@ first_lines r frames (suc n) =
 -- THE AUDIT of these frames
 abbrev pub audit_text : Recoding → List (List ℕ) → List ℕ
 audit_text r frames = first_lines r frames (length frames)
+
+-- behind the lines of the frames before it frame i has the line `{i} {type} guided certified chain`
+pub record SaysChain (r : Recoding) (frames : List (List ℕ)) (i : ℕ) : Type 0 where
+  pub pic : PicType
+  pub behind : List ℕ
+  pub text : audit_text r frames
+      ≡ first_lines r frames i
+      ++ (decimal i
+      ++ (codes " " ++ (type_word pic ++ (codes " guided certified chain\n" ++ behind))))

@@ -1,4 +1,5 @@
 pub mod Audit
 pub mod StepLines
+pub mod AuditedFile
 pub mod Laws
 pub mod Steps

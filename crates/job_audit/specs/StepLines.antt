@@ -7,7 +7,7 @@ use Rattle.plan_window.specs.declared.summary.Mode.{Mode}
 use Rattle.plan_window.specs.declared.summary.Mode.TheVariants as mode
 use Rattle.enc_guided.specs.Recoded.{Recoding, FrameStep}
 use Rattle.enc_guided.specs.FileSteps.{recoding_by_records, summary_in}
-use Rattle.job_recode.specs.Codings.{Coding}
+use Rattle.job_coding.specs.Codings.{Coding}
 use Rattle.job_audit.specs.declared.line.Said.{Said}
 use Rattle.job_audit.specs.declared.line.Line.{Line}
 use Rattle.job_audit.specs.declared.lines.Lines.{Lines}

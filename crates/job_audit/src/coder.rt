@@ -5,13 +5,13 @@ ghost use Rattle.mv_ends.specs.Sends.{Sends};
 ghost use Rattle.rec_legal.specs.Conditions.{has_flag};
 ghost use Rattle.rec_reader.specs.Lent.{lent_found};
 ghost use Rattle.enc_guided.specs.FileSteps.{recoding_by_records};
-ghost use Rattle.job_recode.specs.Stands.{StandsFor};
+ghost use Rattle.job_coding.specs.Stands.{StandsFor};
 ghost use Rattle.job_audit.specs.Audit.{line_text, said_by};
 ghost use Rattle.job_audit.specs.StepLines.{audit_coding, lines_of};
 
 use crate::line::{Line, Said, write_line};
 use crate::lines::Lines;
-use job_recode::{Coder, Records};
+use job_coding::{Coder, Records};
 use mv_ends::{Failed, Sink};
 use mv_terms::{FrameHeader, NoMemory};
 use plan_window::{Step, Summary};

@@ -4,10 +4,9 @@ use Rattle.rec_legal.specs.Conditions.{file_size}
 use Rattle.rec_legal.specs.Found.{found}
 use Rattle.enc_guided.specs.FileSteps.{recoding_by_records}
 use Rattle.enc_guided.specs.Recoded.{FrameStep}
-use Rattle.job_recode.specs.Stands.{StandsFor}
+use Rattle.job_coding.specs.Stands.{StandsFor}
 use Rattle.job_audit.specs.Audit.{said_by}
-use Rattle.job_audit.proofs.CoderLemmas.{holds_on_ok}
-use Rattle.job_recode.proofs.StepLemmas.{has_record}
+use Rattle.job_coding.proofs.CoderLemmas.{has_record, holds_on_ok}
 use Rattle.job_audit.proofs.coder.AuditCoderCoder.code.Goals as goal
 
 pub returns-clause-stands : goal.returns-clause-stands

@@ -1,3 +1,0 @@
-pub mod RecodedFile
-pub mod AuditedFile
-pub mod Laws

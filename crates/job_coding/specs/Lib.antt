@@ -1,0 +1,5 @@
+pub mod Codings
+pub mod Outcome
+pub mod Stands
+pub mod Steps
+pub mod Example
