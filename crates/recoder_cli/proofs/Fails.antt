@@ -3,7 +3,7 @@ use Rattle.std.proofs.Common.{◌≡◌, ℕ, List, Option, sym, subst, inl, inr
 use Rattle.mv_ends.specs.Causes.{Rose}
 use Rattle.mv_ends.specs.Moves.{Inputs}
 use Rattle.job_decode.specs.Stream.{AppendsTaken, TakesNear}
-use Rattle.job_recode.specs.Outcome as recoding
+use Rattle.job_coding.specs.Outcome as coding
 use Rattle.job_recode.specs.ByRecords.{record_coding}
 use Rattle.job_audit.specs.StepLines.{audit_coding}
 use Rattle.recoder_cli.specs.Words.{Form, decode, cut, recode, audit}
@@ -27,21 +27,21 @@ decode_lacks_memory form name old new is keeps = subst (λ (f : Form). LacksMemo
 -- the same of `recode`
 
 pub recode_fails_to_read : (form : Form) (name : List ℕ) (scale : ℕ) (named : Option Inputs) (rest : Option (List ℕ)) (before now : List ℕ → ℕ) (old new : Option (List ℕ))
-    → form ≡ recode name scale → Rose (before name) (now name) → recoding.AppendsTaken (record_coding scale) name named rest old new → FailsToRead form named rest before now old new
+    → form ≡ recode name scale → Rose (before name) (now name) → coding.AppendsTaken (record_coding scale) name named rest old new → FailsToRead form named rest before now old new
 recode_fails_to_read form name scale named rest before now old new is rose part =
     subst (λ (f : Form). FailsToRead f named rest before now old new) (sym is) (rose, part)
 
-pub recode_fails_to_write : (form : Form) (name : List ℕ) (scale : ℕ) (named : Option Inputs) (rest old new : Option (List ℕ)) → form ≡ recode name scale → recoding.TakesNear (record_coding scale) name named rest old new → FailsToWrite form named rest old new
+pub recode_fails_to_write : (form : Form) (name : List ℕ) (scale : ℕ) (named : Option Inputs) (rest old new : Option (List ℕ)) → form ≡ recode name scale → coding.TakesNear (record_coding scale) name named rest old new → FailsToWrite form named rest old new
 recode_fails_to_write form name scale named rest old new is near = subst (λ (f : Form). FailsToWrite f named rest old new) (sym is) near
 
 -- and of `audit`
 
 pub audit_fails_to_read : (form : Form) (name : List ℕ) (named : Option Inputs) (rest : Option (List ℕ)) (before now : List ℕ → ℕ) (old new : Option (List ℕ))
-    → form ≡ audit name → Rose (before name) (now name) → recoding.AppendsTaken audit_coding name named rest old new → FailsToRead form named rest before now old new
+    → form ≡ audit name → Rose (before name) (now name) → coding.AppendsTaken audit_coding name named rest old new → FailsToRead form named rest before now old new
 audit_fails_to_read form name named rest before now old new is rose part =
     subst (λ (f : Form). FailsToRead f named rest before now old new) (sym is) (rose, part)
 
-pub audit_fails_to_write : (form : Form) (name : List ℕ) (named : Option Inputs) (rest old new : Option (List ℕ)) → form ≡ audit name → recoding.TakesNear audit_coding name named rest old new → FailsToWrite form named rest old new
+pub audit_fails_to_write : (form : Form) (name : List ℕ) (named : Option Inputs) (rest old new : Option (List ℕ)) → form ≡ audit name → coding.TakesNear audit_coding name named rest old new → FailsToWrite form named rest old new
 audit_fails_to_write form name named rest old new is near = subst (λ (f : Form). FailsToWrite f named rest old new) (sym is) near
 
 -- the faults of some name rose

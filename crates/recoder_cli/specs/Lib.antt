@@ -2,3 +2,4 @@ pub mod Words
 pub mod Commands
 pub mod Outcomes
 pub mod Said
+pub mod Complete

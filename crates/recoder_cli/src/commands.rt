@@ -5,16 +5,16 @@ ghost use Rattle.mv_ends.specs.Causes.{Counts, FailedWrite};
 ghost use Rattle.mv_ends.specs.Shelves.{KeepsShelf};
 ghost use Rattle.mv_ends.specs.Ends.{Ends, Outcome};
 ghost use Rattle.mv_ends.specs.Endings.{ending_of};
+ghost use Rattle.job_coding.specs.Outcome.{IsRead};
 ghost use Rattle.recoder_cli.specs.Commands.{form_given};
 ghost use Rattle.recoder_cli.specs.Words.{IsLegal};
 ghost use Rattle.recoder_cli.specs.Outcomes.{FailsToOpen, FailsToRead, FailsToWrite, IsDoneOver, IsOutcomeOf, IsPromised, IsStatusOf, LacksMemory};
 
 use crate::words::Command;
-use cert_recoded::outcome_law;
 use cut_list::cut_job;
 use job_audit::audit_job;
 use job_decode::decode_job;
-use job_recode::{RecordCoder, recode_job};
+use job_recode::recode_job;
 use mv_ends::{Shelf, Sink};
 use mv_terms::Status;
 use std::alloc::Global;
@@ -30,10 +30,11 @@ pub fn perform<S: Shelf, O: Sink>(
     ensures ends { ForSome (S.named shelf.old) (λ inputs.
         (outcome : Outcome Status) × IsOutcomeOf (form_given command.now) inputs outcome
         × Ends outcome (ending_of result) (O.written out.old) (O.written out.new)) }
-    ensures done { result ≡ Status.Done → IsDoneOver (form_given command.now)
-        (S.named shelf.old) (S.rest shelf.new) }
-    ensures promised { result ≡ Status.Done → ForSome (S.named shelf.old) (λ inputs.
-        IsPromised (form_given command.now) inputs (O.written out.old) (O.written out.new)) }
+    ensures done { result ≡ Status.Done
+        → IsDoneOver (form_given command.now) (S.rest shelf.new) }
+    ensures promised { IsRead result → ForSome (S.named shelf.old) (λ inputs.
+        IsPromised (form_given command.now) inputs result
+        (O.written out.old) (O.written out.new)) }
     ensures kind { IsStatusOf (form_given command.now) result }
     ensures form { result ≢ Status.Words }
     ensures open_fault { result ≡ Status.OpenFault
@@ -56,14 +57,10 @@ pub fn perform<S: Shelf, O: Sink>(
         (O.room out.old) (O.written out.old) (O.written out.new) }
     ensures kept { KeepsShelf S.named S.open_faults S.read_faults shelf.old shelf.new }
 {
-    // for the proof: what recoded and audited files are
-    outcome_law();
     match command {
         Command::Decode(name) => decode_job(alloc, name, shelf, out),
         Command::Cut(list) => cut_job(alloc, list, shelf, out),
-        Command::Recode(name, scale) => {
-            recode_job::<_, _, RecordCoder>(alloc, name, *scale, shelf, out)
-        }
+        Command::Recode(name, scale) => recode_job(alloc, name, *scale, shelf, out),
         Command::Audit(name) => audit_job(alloc, name, shelf, out),
     }
 }

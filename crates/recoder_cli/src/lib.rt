@@ -16,10 +16,12 @@ ghost use Rattle.std.specs.Prelude.{◌≡◌, ◌↔◌, None};
 ghost use Rattle.std.specs.Option.{ForSome};
 ghost use Rattle.std.specs.Io.KnownBytes.{Keeps};
 ghost use Rattle.mv_ends.specs.Causes.{Counts, FailedWrite};
-ghost use Rattle.mv_ends.specs.Complete.{IsComplete, NoneRose};
+ghost use Rattle.mv_ends.specs.Complete.{IsComplete};
+ghost use Rattle.recoder_cli.specs.Complete.{IsNamed, NoneRoseOf};
 ghost use Rattle.mv_ends.specs.Shelves.{KeepsShelf};
 ghost use Rattle.mv_ends.specs.Ends.{Ends, Outcome};
 ghost use Rattle.mv_terms.specs.Texts.{line_of};
+ghost use Rattle.job_coding.specs.Outcome.{IsRead};
 ghost use Rattle.mv_ends.specs.Endings.{ending_of};
 ghost use Rattle.recoder_cli.specs.Words.{form_of, texts};
 ghost use Rattle.recoder_cli.specs.Outcomes.{FailsToOpen, FailsToRead, FailsToWrite, IsDoneOver, IsOutcomeOf, IsPromised, IsStatusOf, LacksMemory};
@@ -43,14 +45,15 @@ pub fn run<S: Shelf, O: Sink, M: Sink>(
     say: &mut M,
 ) -> Status
     // Where the inputs are told, a command ends as it is defined, but for want of memory and for the faults below; and
-    // where no count of faults rose, it ends so but for want of memory.
+    // where no count of faults rose, of the inputs that the words or their cut list name and of writing, it ends so but for
+    // want of memory.
     ensures ends { ForSome (form_of (texts words.now))
         (λ form. ForSome (S.named shelf.old) (λ inputs.
         (outcome : Outcome Status) × IsOutcomeOf form inputs outcome
         × Ends outcome (ending_of result) (O.written out.old) (O.written out.new))) }
     ensures complete { ForSome (form_of (texts words.now))
         (λ form. ForSome (S.named shelf.old) (λ inputs.
-        NoneRose
+        NoneRoseOf (IsNamed form inputs)
         (record {
           opens = S.open_faults shelf.old;
           reads = S.read_faults shelf.old;
@@ -64,15 +67,14 @@ pub fn run<S: Shelf, O: Sink, M: Sink>(
         → (outcome : Outcome Status) × IsOutcomeOf form inputs outcome
         × IsComplete outcome result (O.written out.old) (O.written out.new))) }
     ensures done { result ≡ Status.Done
-        → ForSome (form_of (texts words.now)) (λ form.
-        IsDoneOver form (S.named shelf.old) (S.rest shelf.new)) }
+        → ForSome (form_of (texts words.now)) (λ form. IsDoneOver form (S.rest shelf.new)) }
 
-    // Where `recode` is done, the output is a stream in which each intact picture has its original bytes, and all of a
-    // stream comes back where the frames are those that it decodes to, and all of them are certified; where `audit` is
-    // done, it is the lines of the frames.
-    ensures promised { result ≡ Status.Done
+    // Where `recode` or `audit` read a file, up to its end or its first fault: `recode` wrote a stream in which each intact
+    // picture has its original bytes, and all of a stream where the file is what it decodes to, and all its pictures are
+    // certified; `audit` wrote the lines of the frames.
+    ensures promised { IsRead result
         → ForSome (form_of (texts words.now)) (λ form. ForSome (S.named shelf.old) (λ inputs.
-        IsPromised form inputs (O.written out.old) (O.written out.new))) }
+        IsPromised form inputs result (O.written out.old) (O.written out.new))) }
 
     // The words alone decide whether they are of no form, and then nothing is written. Otherwise only statuses of the
     // command come.

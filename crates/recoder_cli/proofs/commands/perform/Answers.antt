@@ -1,7 +1,7 @@
 use Rattle.std.proofs.Common.{rules, refl}
 use Rattle.mv_ends.specs.Moves.{input_of}
 use Rattle.cut_list.specs.Cut.{cut_outcome}
-use Rattle.job_recode.specs.Outcome.{outcome_of}
+use Rattle.job_coding.specs.Outcome.{outcome_of}
 use Rattle.job_recode.specs.ByRecords.{record_coding}
 use Rattle.job_audit.specs.StepLines.{audit_coding}
 use Rattle.recoder_cli.proofs.Fails.{decode_fails_to_read, decode_fails_to_write, decode_lacks_memory, recode_fails_to_read, recode_fails_to_write, audit_fails_to_read, audit_fails_to_write}
@@ -39,7 +39,7 @@ pub returns-in-Audit-clause-unwritten : goal.returns-in-Audit-clause-unwritten
 returns-in-Audit-clause-unwritten g c = λ fault. audit_fails_to_write _ _ _ _ _ _ (search rules) (c.audit_job.ensures.reads_ahead fault)
 
 pub returns-in-Recode-clause-promised : goal.returns-in-Recode-clause-promised
-returns-in-Recode-clause-promised g c = λ done inputs told. recode_promised c.outcome_law.ensures.recoded _ _ _ inputs _ _ _ (search rules) (search rules) done (c.recode_job.ensures.ends inputs told)
+returns-in-Recode-clause-promised g c = λ read inputs told. recode_promised _ c.in-Recode.name.now c.in-Recode.scale inputs _ _ _ (search rules) (c.recode_job.ensures.promised read inputs told) (c.recode_job.ensures.back read inputs told)
 
 pub returns-in-Audit-clause-promised : goal.returns-in-Audit-clause-promised
-returns-in-Audit-clause-promised g c = λ done inputs told. audit_promised c.outcome_law.ensures.audited _ _ inputs _ _ _ (search rules) done (c.audit_job.ensures.ends inputs told)
+returns-in-Audit-clause-promised g c = λ read inputs told. audit_promised _ c.in-Audit.name.now inputs _ _ _ (search rules) (c.audit_job.ensures.promised read inputs told)
