@@ -7,7 +7,7 @@ use Rattle.std.proofs.lemmas.List.{length-map}
 use Rattle.std.proofs.lemmas.List.FromFn.{length-range_with_len}
 use Rattle.sha2.specs.Sha256.{sha256}
 use Rattle.sha2.proofs.Facts256.{length-sha256}
-use Rattle.mv_terms.specs.CodedPicture.{macroblocks}
+use Rattle.mv_terms.specs.CodedPicture.{frame_macroblocks}
 use Rattle.mv_terms.specs.Ranges.{IsHead}
 use Rattle.mv_terms.specs.UnitLists.{UnitLists}
 use Rattle.mv_terms.specs.declared.head.PicType.TheVariants as pic
@@ -37,6 +37,7 @@ use Rattle.rec_legal.specs.Laws.{FoundIsFound, UnrecordedHasNone}
 use Rattle.cert_picture.specs.Records.{FrameParts, frame_by, frame_samples, frame_seal, frame_with, is_recordable, longest_part, most_zeros, no_seal, sheet_lists, slots_of, zeros_behind_end}
 use Rattle.cert_picture.specs.RecordLaws.{AreDecoded, HasRecord, IsLink, RecordComesBack, sheet_found}
 use Rattle.cert_picture.specs.FrameFileOf.{UnitFrame, frame_behind, frames_of, parts_behind}
+use Rattle.cert_picture.proofs.RecordLemmas.{all_of_frame}
 use Rattle.cert_picture.proofs.SealedLemmas.{front_of, no_record, seal_by, sheet_ends}
 use Rattle.cert_picture.proofs.SheetLemmas.{front_long}
 use Rattle.cert_found.specs.RecordLaw.{OthersHaveNone, RecordIsFound, has_record, record_behind}
@@ -55,7 +56,7 @@ pub record FitsSheet (p : FrameParts) : Type 0 where
   pub head : length p.lists.head ≤ longest_part
   pub n1 : p.lists.zeros ≤ most_zeros
   pub n2 : zeros_behind_end p.lists ≤ most_zeros
-  pub room : 118 + length p.context + length p.lists.prefix + length p.lists.head ≤ 12 * macroblocks p.picture.head
+  pub room : 118 + length p.context + length p.lists.prefix + length p.lists.head ≤ 12 * frame_macroblocks p.picture.head
 
 not_true : (b : Bool) → not b ≡ true → b ≡ false
 not_true false e = refl
@@ -63,7 +64,7 @@ not_true true e = absurd (false≢true e)
 
 fits_sheet : (p : FrameParts) → is_recordable p ≡ true → FitsSheet p
 fits_sheet p is =
-    let a6 = and_parts _ (leb (118 + length p.context + length p.lists.prefix + length p.lists.head) (12 * macroblocks p.picture.head)) is in
+    let a6 = and_parts _ (leb (118 + length p.context + length p.lists.prefix + length p.lists.head) (12 * frame_macroblocks p.picture.head)) is in
     let a5 = and_parts _ (leb (zeros_behind_end p.lists) most_zeros) a6.0 in
     let a4 = and_parts _ (leb p.lists.zeros most_zeros) a5.0 in
     let a3 = and_parts _ (leb (length p.lists.head) longest_part) a4.0 in
@@ -223,14 +224,15 @@ module _ (legal : CodedIsLegal) (u : CodedUnit) (before : List CodedUnit) (are :
       flags : HasLegalFlags (sheet_lists p) p.picture.decisions
       flags = legal_flags u before are fits.n1 fits.n2
 
-      same_area : p.decoded.mb_wide * p.decoded.mb_high ≡ macroblocks p.picture.head
+      same_area : p.decoded.mb_wide * p.decoded.mb_high ≡ frame_macroblocks p.picture.head
       same_area = ap (λ (n : ℕ). n * p.decoded.mb_high) has_size.wide ∙ ap (λ (n : ℕ). p.picture.head.mb_wide * n) has_size.high
+          ∙ sym (all_of_frame p.picture.head is_head.frame)
 
       front_is_long : length (front_of p) + 32 ≡ 12 * (p.decoded.mb_wide * p.decoded.mb_high)
       front_is_long =
           let r = fits.room in
           let few = flags.known in
-          front_long (sheet_lists p) (12 * macroblocks p.picture.head) (fits_places p made fits (omega (arith, few))) (omega (arith, r))
+          front_long (sheet_lists p) (12 * frame_macroblocks p.picture.head) (fits_places p made fits (omega (arith, few))) (omega (arith, r))
           ∙ ap (λ (n : ℕ). 12 * n) (sym same_area)
 
       seal_is : drop (length (sheet_found p) - 32) (sheet_found p) ≡ unwrap_or (frame_seal p) no_seal

@@ -1,5 +1,5 @@
 -- Legal decisions are as a program holds them.
-use Rattle.std.proofs.Common.{◌≡◌, ℕ, ◌+◌, Bool, true, false, List, [], ◌∷◌, length, refl, sym, ap, ◌∙◌, subst, arith}
+use Rattle.std.proofs.Common.{◌≡◌, ℕ, ◌+◌, Bool, true, false, List, [], ◌∷◌, length, refl, sym, ap, ◌∙◌, subst, arith, ℤ, pos}
 use Rattle.std.specs.Prelude.{All, slice_index_or}
 use Rattle.std.specs.List.{AllByRecursion}
 use Rattle.std.proofs.lemmas.List.Elements.{All-from_recursion}
@@ -7,7 +7,7 @@ use Rattle.mv_terms.specs.Ranges.{HasLegalFCodes}
 use Rattle.mv_terms.specs.declared.head.Head.{Head}
 use Rattle.mv_terms.specs.declared.macroblock.Vector.{Vector}
 use Rattle.mv_terms.specs.declared.macroblock.Decision.{Decision}
-use Rattle.mv_terms.specs.Decisions.{still, vector_of}
+use Rattle.mv_terms.specs.Decisions.{no_dmvector, still, vector_of}
 use Rattle.mv_vectors.specs.Vectors.{Directed, directed, frame_directed}
 use Rattle.mv_macro.specs.Past.{Seen}
 use Rattle.mv_macro.specs.Legal.{counted, HasLegalVectors, IsLegal, AreLegalFrom, in_its_slice}
@@ -89,6 +89,9 @@ at other xs s r = slice_index_or (slice_index_or xs s []) r other
 own_four : {A : Type 0} (other : A) (xs : List (List A)) (a b c e : A) → xs ≡ four_of a b c e → xs ≡ four_of (at other xs 0 0) (at other xs 0 1) (at other xs 1 0) (at other xs 1 1)
 own_four {A} other xs a b c e same = subst (λ (ys : List (List A)). ys ≡ four_of (at other ys 0 0) (at other ys 0 1) (at other ys 1 0) (at other ys 1 1)) (sym same) refl
 
+own_two : (xs : List ℤ) → xs ≡ no_dmvector → xs ≡ slice_index_or xs 0 (pos 0) ∷ slice_index_or xs 1 (pos 0) ∷ []
+own_two xs same = subst (λ (ys : List ℤ). ys ≡ slice_index_or ys 0 (pos 0) ∷ slice_index_or ys 1 (pos 0) ∷ []) (sym same) refl
+
 legal_is_held : (head : Head) (seen : Seen) (last : Bool) (d : Decision) → HasLegalFCodes head → IsLegal head seen last d → IsHeld d
 legal_is_held head seen last d codes l =
     let p = pairs head seen last d l in
@@ -98,6 +101,7 @@ legal_is_held head seen last d codes l =
     record {
       selects = own_four false d.selects x.a x.b y.a y.b (two_of d.selects l.two_selects ∙ both_lists _ _ _ _ x.selects_are y.selects_are);
       vectors = own_four still d.vectors x.v x.w y.v y.w (two_of d.vectors l.two_vectors ∙ both_lists _ _ _ _ x.vectors_are y.vectors_are);
+      dual_delta = own_two d.dual_delta l.motion.dual_delta;
       x_fits = λ s r. (fits.vectors s r).x;
       y_fits = λ s r. (fits.vectors s r).y;
     }

@@ -7,7 +7,7 @@ use Rattle.std.proofs.lemmas.Slice.Eq.{bytes_eq-Decides}
 use Rattle.sha2.specs.Sha256.{sha256}
 use Rattle.sha2.proofs.Facts256.{length-sha256}
 use Rattle.mv_bits.specs.Writing.{AreBytes}
-use Rattle.mv_terms.specs.CodedPicture.{macroblocks, pic_of}
+use Rattle.mv_terms.specs.CodedPicture.{frame_macroblocks, pic_of}
 use Rattle.mv_terms.specs.declared.macroblock.MacroLevels.{MacroLevels}
 use Rattle.mv_slices.specs.Canonical.{canonical_slices, canonical_tail, settled}
 use Rattle.mv_slices.specs.CanonicalLaws.{OfLegalPictures, TellCoding}
@@ -22,6 +22,7 @@ use Rattle.cert_picture.specs.Records.{FrameParts, flag, flags_of, frame_by, fra
 use Rattle.cert_picture.specs.RecordLaws.{AreDecoded, IsLink, HasRecord, RecordComesBack, PictureComesBack, OnlyRecordIsFound, FlagTellsCertified, CertifiedComesFromSamples, sheet_found}
 use Rattle.cert_picture.proofs.ByteLemmas.{byte_in, bytes_sha256, bytes_zeros}
 use Rattle.cert_picture.proofs.HeldLemmas.{all_fit_slots}
+use Rattle.cert_picture.proofs.RecordLemmas.{all_of_frame}
 use Rattle.cert_picture.proofs.SlotLemmas.{bytes_slots, slots_long}
 use Rattle.cert_picture.proofs.SheetLemmas.{HasBytes, bytes_sheet, front_long}
 use Rattle.cert_picture.proofs.SealedLemmas.{front_of, no_record, sheet_ends, seal_by}
@@ -34,11 +35,11 @@ record FitsSheet (p : FrameParts) : Type 0 where
   head : length p.lists.head ≤ longest_part
   n1 : p.lists.zeros ≤ most_zeros
   n2 : zeros_behind_end p.lists ≤ most_zeros
-  room : 118 + length p.context + length p.lists.prefix + length p.lists.head ≤ 12 * macroblocks p.picture.head
+  room : 118 + length p.context + length p.lists.prefix + length p.lists.head ≤ 12 * frame_macroblocks p.picture.head
 
 fits_sheet : (p : FrameParts) → is_recordable p ≡ true → FitsSheet p
 fits_sheet p is =
-    let a6 = and_parts _ (leb (118 + length p.context + length p.lists.prefix + length p.lists.head) (12 * macroblocks p.picture.head)) is in
+    let a6 = and_parts _ (leb (118 + length p.context + length p.lists.prefix + length p.lists.head) (12 * frame_macroblocks p.picture.head)) is in
     let a5 = and_parts _ (leb (zeros_behind_end p.lists) most_zeros) a6.0 in
     let a4 = and_parts _ (leb p.lists.zeros most_zeros) a5.0 in
     let a3 = and_parts _ (leb (length p.lists.head) longest_part) a4.0 in
@@ -86,12 +87,15 @@ link_bytes (Some bytes) is = is.bytes
 -- ---- a frame with its record
 
 module _ (back : BuriedComesBack) (digest : SealIsOfZeros) (places : PlacesAreWritten) (p : FrameParts) (made : AreDecoded p) where
-  same_area : p.decoded.mb_wide * p.decoded.mb_high ≡ macroblocks p.picture.head
-  same_area = ap (λ (n : ℕ). n * p.decoded.mb_high) made.size.wide ∙ ap (λ (n : ℕ). p.picture.head.mb_wide * n) made.size.high
+  whole_area : frame_macroblocks p.picture.head ≡ p.picture.head.mb_wide * p.picture.head.mb_high
+  whole_area = all_of_frame p.picture.head made.head.frame
+
+  same_area : p.decoded.mb_wide * p.decoded.mb_high ≡ frame_macroblocks p.picture.head
+  same_area = ap (λ (n : ℕ). n * p.decoded.mb_high) made.size.wide ∙ ap (λ (n : ℕ). p.picture.head.mb_wide * n) made.size.high ∙ sym whole_area
 
   module _ (recordable : is_recordable p ≡ true) where
     abbrev size : ℕ
-    size = 12 * macroblocks p.picture.head
+    size = 12 * frame_macroblocks p.picture.head
 
     abbrev seal : List ℕ
     seal = sha256 (frame_with p no_seal)
@@ -132,7 +136,7 @@ module _ (back : BuriedComesBack) (digest : SealIsOfZeros) (places : PlacesAreWr
           head = made.head_bytes;
         } in
         record {
-          slots_size = slots_long p.picture.decisions ∙ ap (λ (n : ℕ). 20 * n) (made.decisions.size ∙ sym same_area);
+          slots_size = slots_long p.picture.decisions ∙ ap (λ (n : ℕ). 20 * n) (made.decisions.size ∙ sym whole_area ∙ sym same_area);
           sheet_size = sheet_long ∙ ap (λ (n : ℕ). 12 * n) (sym same_area);
           slot_bytes = byte_in (slots_of p.picture.decisions) (bytes_slots p.picture.decisions (all_fit_slots p.picture.head 0 _ p.picture.decisions made.head.f_code made.decisions.each));
           sheet_bytes = byte_in (sheet_with p seal) (bytes_sheet (sheet_lists p) size seal fits has (bytes_sha256 (frame_with p no_seal)));

@@ -2,9 +2,12 @@
 use Rattle.std.proofs.Common.{◌≡◌, ℕ, ◌+◌, ◌*◌, ◌<◌, List, [], ◌∷◌, ◌++◌, length, take, drop, get_or, sym, ap, ◌∙◌, arith}
 use Rattle.std.proofs.lemmas.List.{take_at, take_more}
 use Rattle.std.proofs.lemmas.Grind.{flat_map-append}
+use Rattle.mv_terms.specs.declared.head.Head.{Head}
 use Rattle.mv_terms.specs.declared.macroblock.Decision.{Decision}
+use Rattle.mv_terms.specs.Structures.{IsOfFrame}
+use Rattle.mv_terms.proofs.StructureLaws.{rows_of_whole}
 use Rattle.rec_slot.specs.Slot.{slot_of}
-use Rattle.mv_terms.specs.CodedPicture.{CodedPicture, macroblocks}
+use Rattle.mv_terms.specs.CodedPicture.{CodedPicture, frame_macroblocks, macroblocks}
 use Rattle.mv_planes.specs.Planes.{Planes}
 use Rattle.mv_planes.specs.References.{References}
 use Rattle.mv_recon.specs.Pictures.{picture_from, picture_with}
@@ -28,7 +31,7 @@ slots_more decisions none old new piece k inside is now before =
 
 -- the sheet that is written of what the sheet says
 pub sheet_is : (p : FrameParts) (s : SheetLists) (size : ℕ) (bytes : List ℕ) → s ≡ sheet_lists p
-    → size ≡ 12 * macroblocks p.picture.head → bytes ≡ sheet_of s size no_seal → bytes ≡ sheet_with p no_seal
+    → size ≡ 12 * frame_macroblocks p.picture.head → bytes ≡ sheet_of s size no_seal → bytes ≡ sheet_with p no_seal
 sheet_is p s size bytes says long is =
     is ∙ ap (λ (t : SheetLists). sheet_of t size no_seal) says ∙ ap (λ (n : ℕ). sheet_of (sheet_lists p) n no_seal) long
 
@@ -36,7 +39,13 @@ sheet_is p s size bytes says long is =
 pub refilled : {A : Type 0} (size : ℕ) (items new : List A) → length new ≡ size → take size (new ++ drop (length new) items) ≡ new
 refilled size items new long = take_at new (drop (length new) items) size long
 
--- a decoded picture has as many macroblocks as its head says
-pub as_many_macroblocks : (refs : References) (coded : CodedPicture) (picture : Planes) → picture ≡ picture_from refs coded → picture.mb_wide * picture.mb_high ≡ macroblocks coded.head
+-- a frame picture has the macroblocks of its frame
+pub all_of_frame : (head : Head) → IsOfFrame head → frame_macroblocks head ≡ macroblocks head
+all_of_frame head frame = ap (λ (rows : ℕ). head.mb_wide * rows) (rows_of_whole head frame)
+
+-- a decoded frame picture has as many macroblocks as its head says of the frame
+pub as_many_macroblocks : (refs : References) (coded : CodedPicture) (picture : Planes) → IsOfFrame coded.head → picture ≡ picture_from refs coded
+    → picture.mb_wide * picture.mb_high ≡ frame_macroblocks coded.head
 unfolding picture_with
-as_many_macroblocks refs coded picture decoded = ap (λ (p : Planes). p.mb_wide * p.mb_high) decoded
+as_many_macroblocks refs coded picture frame decoded =
+    ap (λ (p : Planes). p.mb_wide * p.mb_high) decoded ∙ sym (all_of_frame coded.head frame)

@@ -2,7 +2,7 @@
 use Rattle.std.proofs.Common.{◌≡◌, ℕ, ◌-◌, ◌*◌, Bool, true, false, List, ◌++◌, replicate, Option, None, Some, sym, ap, ◌∙◌, append_assoc, codes}
 use Rattle.std.specs.Prelude.{if◌then◌else◌}
 use Rattle.sha2.specs.Sha256.{sha256}
-use Rattle.mv_terms.specs.CodedPicture.{macroblocks}
+use Rattle.mv_terms.specs.CodedPicture.{frame_macroblocks}
 use Rattle.rec_sheet.specs.Sheets.{SheetLists, sheet_of, kind_of, four_bytes, lengths_of, end_of}
 use Rattle.rec_bury.specs.Buried.{frame_of}
 use Rattle.rec_bury.specs.FrameBytes.{unrecorded}
@@ -23,10 +23,10 @@ seal_ends s size seal =
 
 -- what stands in front of the seal in the sheet of a picture
 abbrev pub front_of : FrameParts → List ℕ
-front_of p = sheet_front (sheet_lists p) (12 * macroblocks p.picture.head)
+front_of p = sheet_front (sheet_lists p) (12 * frame_macroblocks p.picture.head)
 
 pub sheet_ends : (p : FrameParts) (seal : List ℕ) → sheet_with p seal ≡ front_of p ++ seal
-sheet_ends p seal = seal_ends (sheet_lists p) (12 * macroblocks p.picture.head) seal
+sheet_ends p seal = seal_ends (sheet_lists p) (12 * frame_macroblocks p.picture.head) seal
 
 abbrev pub seal_by : FrameParts → Bool → Option (List ℕ)
 seal_by p recorded = if recorded then Some (sha256 (frame_with p no_seal)) else None

@@ -14,11 +14,12 @@ use Rattle.mv_terms.specs.declared.macroblock.Decision.{Decision}
 use Rattle.mv_terms.specs.declared.macroblock.MacroLevels.{MacroLevels}
 use Rattle.mv_planes.specs.declared.picture.Plane.{Plane}
 use Rattle.mv_planes.specs.Planes.{Planes, sample_of, IsInside}
-use Rattle.mv_planes.specs.Lent.{Part, column, line}
-use Rattle.mv_planes.specs.Layout.{part_at, block_of, row_in_block, column_in_block, IsBlockOf, Owned}
+use Rattle.mv_planes.specs.declared.part.Part.{Part}
+use Rattle.mv_planes.specs.Parts.{column, line}
+use Rattle.mv_planes.specs.Layout.{plane_of, part_at, block_of, row_in_block, column_in_block, IsBlockOf, Owned}
 use Rattle.mv_planes.specs.References.{References, references_lent}
 use Rattle.mv_planes.specs.declared.coded.Coded.{Coded}
-use Rattle.mv_planes.proofs.LayoutLaws.{owned, part_inside, plane_at}
+use Rattle.mv_planes.proofs.LayoutLaws.{owned, part_inside, plane_at, has_plane}
 use Rattle.mv_macro.specs.Past.{dc_level}
 use Rattle.mv_macro.specs.Legal.{HasCodedLevels, AreLegalLevels}
 use Rattle.mv_predict.specs.Prediction.{predicted_at}
@@ -31,12 +32,12 @@ use Rattle.mv_recon.specs.Pictures.{residual_at, residual_of, clipped, picture_f
 use Rattle.mv_recon.proofs.PictureLemmas.{pictures_have_their_samples}
 use Rattle.mv_recon.proofs.PredictionLemmas.{intra_is_zero}
 use Rattle.mv_vectors.specs.Predictable.{CanBeReconstructed}
-use Rattle.cert_requant.specs.Requantised.{plane_of, block_part, difference_at, nearest_block, requantised_block, requantised_macroblock, requantised, requantised_at}
+use Rattle.cert_requant.specs.Requantised.{block_part, difference_at, nearest_block, requantised_block, requantised_macroblock, requantised, requantised_at}
 use Rattle.cert_requant.proofs.MadeLemmas.{in_block, macroblock_is, by_place, picture_is}
-use Rattle.cert_requant.proofs.SampleLemmas.{predicted_sample, has_plane}
+use Rattle.cert_requant.proofs.SampleLemmas.{predicted_sample}
 use Rattle.cert_picture.specs.Certifying.{coded_lent}
 use Rattle.cert_picture.specs.Steps.{sample_in, block_samples, predicted_in, IsDecodedFrom, IsFound, StaysFound, WasDecoded, HasByteReferences, MacroblockStays}
-use Rattle.cert_picture.proofs.FoundLemmas.{found_like, from_like}
+use Rattle.cert_picture.proofs.NearestLemmas.{found_like, from_like}
 
 -- ---- the samples of a decoded picture
 

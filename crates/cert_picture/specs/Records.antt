@@ -6,7 +6,7 @@ use Rattle.sha2.specs.Sha256.{sha256}
 use Rattle.mv_terms.specs.declared.macroblock.Decision.{Decision}
 use Rattle.mv_terms.specs.declared.macroblock.MacroLevels.{MacroLevels}
 use Rattle.mv_terms.specs.UnitLists.{UnitLists}
-use Rattle.mv_terms.specs.CodedPicture.{CodedPicture, pic_of, macroblocks}
+use Rattle.mv_terms.specs.CodedPicture.{CodedPicture, frame_macroblocks, pic_of}
 use Rattle.mv_planes.specs.Planes.{Planes}
 use Rattle.mv_planes.specs.References.{References}
 use Rattle.mv_slices.specs.Canonical.{canonical_slices, canonical_tail}
@@ -54,7 +54,7 @@ is_recordable p =
     && nat_le (zeros_behind_end p.lists) most_zeros
     && nat_le
     (118 + length p.context + length p.lists.prefix + length p.lists.head)
-    (12 * macroblocks p.picture.head)
+    (12 * frame_macroblocks p.picture.head)
 
 -- These levels, coded anew with the decisions of the picture, are its slices, and the zero bytes behind them hold their
 -- tail.
@@ -109,7 +109,7 @@ slots_of decisions = flat_map slot_of decisions
 
 -- the sheet and the frame with this seal
 abbrev pub sheet_with : FrameParts → List ℕ → List ℕ
-sheet_with p seal = sheet_of (sheet_lists p) (12 * macroblocks p.picture.head) seal
+sheet_with p seal = sheet_of (sheet_lists p) (12 * frame_macroblocks p.picture.head) seal
 
 abbrev pub frame_with : FrameParts → List ℕ → List ℕ
 frame_with p seal = frame_of p.decoded (slots_of p.picture.decisions) (sheet_with p seal)

@@ -9,8 +9,9 @@ use Rattle.mv_terms.specs.declared.head.Head.{Head}
 use Rattle.mv_terms.specs.declared.macroblock.Decision.{Decision}
 use Rattle.mv_terms.specs.declared.macroblock.MacroLevels.{MacroLevels}
 use Rattle.mv_planes.specs.Planes.{Planes, sample_of}
-use Rattle.mv_planes.specs.Lent.{Part, column, line}
-use Rattle.mv_planes.specs.Layout.{part_at}
+use Rattle.mv_planes.specs.declared.part.Part.{Part}
+use Rattle.mv_planes.specs.Parts.{column, line}
+use Rattle.mv_planes.specs.Layout.{plane_of, part_at}
 use Rattle.mv_planes.specs.References.{References, references_lent}
 use Rattle.mv_planes.specs.declared.coded.Coded.{Coded}
 use Rattle.mv_macro.specs.Legal.{AreLegalLevels}
@@ -22,7 +23,7 @@ use Rattle.mv_quant.specs.Nearest.{distance}
 use Rattle.mv_recon.specs.Pictures.{picture_from}
 use Rattle.mv_slices.specs.Canonical.{canonical_slices, canonical_tail}
 use Rattle.mv_vectors.specs.Predictable.{AllCanBeReconstructed}
-use Rattle.cert_requant.specs.Requantised.{plane_of, requantised_at}
+use Rattle.cert_requant.specs.Requantised.{requantised_at}
 use Rattle.cert_requant.specs.Stays.{StandsAlone, IsDecoded, AreSamples, found_level}
 use Rattle.cert_requant.specs.Steps.{HasBytes}
 use Rattle.cert_picture.specs.Certifying.{coded_lent}

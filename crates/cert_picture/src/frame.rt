@@ -2,7 +2,7 @@
 ghost use Rattle.std.specs.Prelude.{◌≡◌, ℕ, ◌*◌, ◌≤◌, ◌++◌, List, length, IfOk};
 ghost use Rattle.sha2.specs.Sha256.{sha256};
 ghost use Rattle.mv_bits.specs.Zeros.{zeros_at_end};
-ghost use Rattle.mv_terms.specs.CodedPicture.{macroblocks};
+ghost use Rattle.mv_terms.specs.CodedPicture.{frame_macroblocks};
 ghost use Rattle.mv_terms.specs.Ranges.{IsHead};
 ghost use Rattle.mv_planes.specs.References.{references_lent};
 ghost use Rattle.mv_predict.specs.Blocks.{HasSizeOf};
@@ -71,11 +71,11 @@ pub fn make_frame(
     requires forward { HasSizeOf coded.now.head.now coded.now.refs.forward.now }
     requires backward { HasSizeOf coded.now.head.now coded.now.refs.backward.now }
     requires slices { zeros_at_end stream.now.unit.slices.now ≡ 0 }
-    requires room { HasRoomFor (macroblocks coded.now.head.now) room.old }
+    requires room { HasRoomFor (frame_macroblocks coded.now.head.now) room.old }
     requires frame { length to.old.items ≡ 2 * length coded.now.picture.now.samples }
     ensures frame { to.new.items ≡ frame_samples (lent_parts coded.now stream.now) }
     ensures seal { result ≡ frame_seal (lent_parts coded.now stream.now) }
-    ensures room { HasRoomFor (macroblocks coded.now.head.now) room.new }
+    ensures room { HasRoomFor (frame_macroblocks coded.now.head.now) room.new }
     ensures length { length to.new.items ≡ length to.old.items }
 {
     if !is_recordable(coded, stream) {

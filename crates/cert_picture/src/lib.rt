@@ -10,9 +10,9 @@
 
 mod certifying;
 mod close;
-mod found;
 mod frame;
 mod laws;
+mod nearest;
 mod record;
 mod recorded;
 mod stay;
@@ -21,8 +21,3 @@ mod sure;
 pub use certifying::{certify, certify_decoded};
 pub use frame::{FrameRoom, StreamParts, make_frame};
 pub use laws::{certified_law, due_law, file_law, pictures_law, record_law};
-
-#[cfg(test)]
-mod certifying_tests;
-#[cfg(test)]
-mod tests;

@@ -1,6 +1,6 @@
 //! The record of a picture: its slots and its sheet, in room that is lent for them.
 ghost use Rattle.std.specs.Prelude.{◌≡◌, ◌+◌, ◌*◌, ◌≤◌, ◌++◌, true, length, take};
-ghost use Rattle.mv_terms.specs.CodedPicture.{macroblocks};
+ghost use Rattle.mv_terms.specs.CodedPicture.{frame_macroblocks};
 ghost use Rattle.cert_picture.specs.Lent.{lent_parts};
 ghost use Rattle.cert_picture.specs.Records.{is_recordable, no_seal, returns_slices, sheet_with, slots_of};
 
@@ -22,13 +22,14 @@ pub(crate) fn write_record(
 )
     requires recordable { is_recordable (lent_parts coded.now stream.now) ≡ true }
     requires returned { certified ≡ returns_slices (lent_parts coded.now stream.now) }
-    requires decisions { length coded.now.decisions.now ≡ macroblocks coded.now.head.now }
-    requires slots { length slots.old.items ≡ 20 * macroblocks coded.now.head.now }
-    requires sheet { length sheet.old.items ≡ 12 * macroblocks coded.now.head.now }
+    requires decisions { length coded.now.decisions.now
+        ≡ frame_macroblocks coded.now.head.now }
+    requires slots { length slots.old.items ≡ 20 * frame_macroblocks coded.now.head.now }
+    requires sheet { length sheet.old.items ≡ 12 * frame_macroblocks coded.now.head.now }
     ensures slots { slots.new.items ≡ slots_of coded.now.decisions.now }
     ensures sheet { sheet.new.items ≡ sheet_with (lent_parts coded.now stream.now) no_seal }
-    ensures slots_size { length slots.new.items ≡ 20 * macroblocks coded.now.head.now }
-    ensures sheet_size { length sheet.new.items ≡ 12 * macroblocks coded.now.head.now }
+    ensures slots_size { length slots.new.items ≡ 20 * frame_macroblocks coded.now.head.now }
+    ensures sheet_size { length sheet.new.items ≡ 12 * frame_macroblocks coded.now.head.now }
 {
     write_slots(coded.decisions, slots);
     write_sheet(&sheet_for(coded, stream, certified), sheet);

@@ -1,6 +1,7 @@
 //! Which pictures have a record, and what its sheet says.
-ghost use Rattle.std.specs.Prelude.{◌≡◌, ◌+◌, ◌*◌, ◌≤◌, nat_le, true, unwrap_or, if◌then◌else◌};
-ghost use Rattle.mv_terms.specs.CodedPicture.{macroblocks};
+ghost use Rattle.std.specs.Prelude.{◌≡◌, ◌+◌, ◌*◌, ◌<◌, ◌≤◌, nat_le, true, unwrap_or, if◌then◌else◌};
+ghost use Rattle.mv_terms.specs.CodedPicture.{frame_macroblocks};
+ghost use Rattle.mv_terms.specs.Structures.{frame_rows};
 ghost use Rattle.mv_terms.specs.UnitLists.{lent_unit};
 ghost use Rattle.rec_sheet.specs.Sheets.{lent_sheet};
 ghost use Rattle.cert_picture.specs.Lent.{lent_parts};
@@ -8,7 +9,7 @@ ghost use Rattle.cert_picture.specs.Records.{flag, flags_of, is_recordable, no_s
 
 use crate::frame::StreamParts;
 use mv_planes::Coded;
-use mv_terms::{Head, UnitParts};
+use mv_terms::{Head, Structure, UnitParts};
 use rec_sheet::{Sheet, fits};
 use rec_slot::uses_forward;
 
@@ -30,7 +31,7 @@ pub(crate) fn is_recordable(coded: &Coded<'_>, stream: &StreamParts<'_>) -> bool
         && unit.zeros <= MOST_ZEROS
         && zeros_behind_end(unit) <= MOST_ZEROS
         && has_room(
-            macroblocks(coded.head),
+            frame_macroblocks(coded.head),
             stream.context.len(),
             unit.prefix.len(),
             unit.head.len(),
@@ -80,11 +81,22 @@ fn flag(set: bool, value: u8) -> u8
     if set { value } else { 0 }
 }
 
-/// How many macroblocks the picture has.
-fn macroblocks(head: &Head) -> usize
-    ensures { result ≡ macroblocks head.now }
+/// How many macroblocks the frame of the picture has.
+fn frame_macroblocks(head: &Head) -> usize
+    ensures { result ≡ frame_macroblocks head.now }
 {
-    usize::from(head.mb_wide) * usize::from(head.mb_high)
+    usize::from(head.mb_wide) * frame_rows(head)
+}
+
+/// How many rows of macroblocks the frame has: a field has half of them.
+fn frame_rows(head: &Head) -> usize
+    ensures value { result ≡ frame_rows head.now }
+    ensures bound { result < 131072 }
+{
+    match head.structure {
+        Structure::Frame => usize::from(head.mb_high),
+        _ => 2 * usize::from(head.mb_high),
+    }
 }
 
 /// The zero bytes behind the end code, none where there is no end code.

@@ -7,7 +7,7 @@ ghost use Rattle.mv_planes.specs.References.{references_lent};
 ghost use Rattle.cert_requant.specs.Requantised.{requantised};
 ghost use Rattle.cert_picture.specs.Steps.{HasByteReferences, IsDecodedFrom, IsFound, MacroblockStays, StandAlone, StaysFound, WasDecoded, block_samples};
 
-use crate::found::{are_nearest, samples_of};
+use crate::nearest::{are_nearest, samples_of};
 use crate::sure::{is_absent, size_alone, surely_stay};
 use mv_planes::{Coded, Picture};
 use mv_predict::{MacroSamples, predict};

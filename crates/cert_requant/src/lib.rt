@@ -16,9 +16,10 @@ ghost use Rattle.cert_requant.specs.Requantised.{requantised_macroblock, requant
 mod block;
 mod laws;
 
-use block::{are_bytes, block_in, levels_of_block};
+pub use block::differences;
+use block::{are_bytes, levels_of_block};
 pub use laws::{requantised_law, stays_law};
-use mv_planes::{Picture, RefPair};
+use mv_planes::{Picture, RefPair, part_at};
 use mv_predict::{MacroSamples, predict};
 use mv_quant::kind_of;
 use mv_terms::{Decision, Head, MacroLevels};
@@ -85,11 +86,9 @@ fn requantise_macroblock(
     };
     predict(refs, head, d, mb_x, mb_y, &mut predicted);
     let kind = kind_of(head, d);
+    let (x, y) = (usize::from(mb_x), usize::from(mb_y));
     'each: for b in 0..6 {
-        let block = block_in(source, d.field_dct, usize::from(mb_x), usize::from(mb_y), b);
-        to.blocks[b] = levels_of_block(&block, &predicted.blocks[b], &kind);
+        let part = part_at(d.field_dct, x, y, b);
+        to.blocks[b] = levels_of_block(&source.block(part), &predicted.blocks[b], &kind);
     }
 }
-
-#[cfg(test)]
-mod tests;

@@ -2,7 +2,6 @@
 use Rattle.std.proofs.Common.{◌≡◌, ℕ, ◌+◌, ◌-◌, ◌<◌, ◌≤◌, false, cond, List, [], ◌∷◌, ◌++◌, length, drop, refl, sym, ap, ◌∙◌, subst, arith, Option, Some, None, Result, Ok, Err, nat_eq, append-nil, append_assoc, eq-eqb, ne_eqb, ⊎_elim}
 use Rattle.std.proofs.lemmas.Bool.{cases_lt, cases_eq, le-leb, lt-leb}
 use Rattle.std.proofs.KnownBytes.{Appends-nil}
-use Rattle.mv_ends.specs.Causes.{Counts}
 use Rattle.std.proofs.lemmas.List.{length-append, length-drop, drop_all}
 use Rattle.std.specs.Io.KnownBytes.{Appends, Consumes}
 use Rattle.mv_ends.specs.Moves.{AppendsPart, AppendsFront}
@@ -163,9 +162,6 @@ begins from opening r rest old begun left s told =
       count_is = refl;
       written = subst (λ (x : List (List ℕ)). Appends old old (text_of opening x)) (sym none) (Appends-nil old);
     }
-
-pub no_counts : (f room : ℕ) (old : Option (List ℕ)) → Counts f f room old old
-no_counts f room old = record { later = omega arith; moved = λ l. absurd (omega arith) }
 
 pub grows_not : (old : Option (List ℕ)) → Grows old old
 grows_not old = ([], Appends-nil old)

@@ -6,3 +6,4 @@ pub mod CopyExits
 pub mod LineLemmas
 pub mod CutLemmas
 pub mod JobLemmas
+pub mod FaultLemmas

@@ -6,6 +6,7 @@ use Rattle.std.specs.Option.{ForSome}
 use Rattle.mv_ends.specs.Causes.{Rose}
 use Rattle.mv_ends.specs.Ends.{Outcome}
 use Rattle.mv_ends.specs.Moves.{Inputs, input_of, AppendsPart}
+use Rattle.mv_ends.specs.Told.{ShelfTold, SinkTold}
 use Rattle.mv_terms.specs.declared.status.FrameFault.{FrameFault}
 use Rattle.mv_terms.specs.declared.status.FrameFault.TheVariants.{NoFrames}
 use Rattle.mv_terms.specs.declared.status.LineFault.{LineFault}
@@ -133,17 +134,21 @@ pub record RoseAt (entries : List Entry) (line : ℕ) (before now : List ℕ →
   pub rose : Rose (before entry.name) (now entry.name)
 
 -- An input of a line couldn't be opened: its faults rose, and the output of the lines before it is written.
-abbrev pub FailsToOpenLine : Option Inputs → List Entry → (List ℕ → ℕ) → (List ℕ → ℕ)
-    → Option (List ℕ) → Option (List ℕ) → Type 0
-FailsToOpenLine named entries before now old new = (line : ℕ) × RoseAt entries line before now
-    × ForSome named (λ inputs. Appends old new (cut_of (input_of inputs) (take line entries)).text)
+abbrev pub FailsToOpenLine : List Entry → ShelfTold → ShelfTold → SinkTold → SinkTold → Type 0
+FailsToOpenLine entries old new before after =
+    (line : ℕ) × RoseAt entries line old.open_faults new.open_faults
+    × ForSome old.named
+    (λ inputs.
+    Appends before.written after.written (cut_of (input_of inputs) (take line entries)).text)
 
 -- An input of a line couldn't be read: its faults rose, and no more than the output up to this line is written.
-abbrev pub FailsToReadLine : Option Inputs → List Entry → (List ℕ → ℕ) → (List ℕ → ℕ)
-    → Option (List ℕ) → Option (List ℕ) → Type 0
-FailsToReadLine named entries before now old new = (line : ℕ) × RoseAt entries line before now
-    × ForSome named
-    (λ inputs. AppendsPart old new (cut_of (input_of inputs) (take (line + 1) entries)).text)
+abbrev pub FailsToReadLine : List Entry → ShelfTold → ShelfTold → SinkTold → SinkTold → Type 0
+FailsToReadLine entries old new before after =
+    (line : ℕ) × RoseAt entries line old.read_faults new.read_faults
+    × ForSome old.named
+    (λ inputs.
+    AppendsPart before.written after.written
+    (cut_of (input_of inputs) (take (line + 1) entries)).text)
 
 -- the entries are those of the list of this name, where the inputs are told
 abbrev pub AreListed : Option Inputs → List ℕ → List Entry → Type 0
@@ -151,15 +156,15 @@ AreListed named list entries =
     ForSome named (λ inputs. entries_of (input_of inputs list) ≡ Ok entries)
 
 -- The list couldn't be opened, or the input of one of its lines.
-abbrev pub FailsToOpenCut : List ℕ → Option Inputs → (List ℕ → ℕ) → (List ℕ → ℕ) → Option (List ℕ)
-    → Option (List ℕ) → Type 0
-FailsToOpenCut list named before now old new = (Rose (before list) (now list) × Keeps old new)
-    ⊎ ((entries : List Entry) × AreListed named list entries
-    × FailsToOpenLine named entries before now old new)
+abbrev pub FailsToOpenCut : List ℕ → ShelfTold → ShelfTold → SinkTold → SinkTold → Type 0
+FailsToOpenCut list old new before after =
+    (Rose (old.open_faults list) (new.open_faults list) × Keeps before.written after.written)
+    ⊎ ((entries : List Entry) × AreListed old.named list entries
+    × FailsToOpenLine entries old new before after)
 
 -- The list couldn't be read, or the input of one of its lines.
-abbrev pub FailsToReadCut : List ℕ → Option Inputs → (List ℕ → ℕ) → (List ℕ → ℕ) → Option (List ℕ)
-    → Option (List ℕ) → Type 0
-FailsToReadCut list named before now old new = (Rose (before list) (now list) × Keeps old new)
-    ⊎ ((entries : List Entry) × AreListed named list entries
-    × FailsToReadLine named entries before now old new)
+abbrev pub FailsToReadCut : List ℕ → ShelfTold → ShelfTold → SinkTold → SinkTold → Type 0
+FailsToReadCut list old new before after =
+    (Rose (old.read_faults list) (new.read_faults list) × Keeps before.written after.written)
+    ⊎ ((entries : List Entry) × AreListed old.named list entries
+    × FailsToReadLine entries old new before after)

@@ -1,3 +1,4 @@
 pub mod List
 pub mod Cut
+pub mod Command
 pub mod Steps

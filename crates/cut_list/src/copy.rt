@@ -2,9 +2,9 @@
 ghost use Rattle.std.specs.Prelude.{◌≡◌, ◌≢◌, ◌+◌, ◌<◌, ◌≤◌, ℕ, List, [], ◌++◌, length, Ok, None, Some, OnOk, OnErr, IsErrOf};
 ghost use Rattle.std.specs.Option.{ForSome};
 ghost use Rattle.std.specs.Io.KnownBytes.{Appends};
-ghost use Rattle.mv_ends.specs.Causes.{Counts, FailedWrite, RoseForSelected};
+ghost use Rattle.mv_ends.specs.Causes.{FailedRead, FailedWrite};
 ghost use Rattle.mv_ends.specs.Sends.{Sends};
-ghost use Rattle.mv_ends.specs.Shelves.{KeepsShelf};
+ghost use Rattle.mv_ends.specs.Kept.{KeepsShelf, KeepsSink};
 ghost use Rattle.mv_ends.specs.Moves.{AppendsFront};
 ghost use Rattle.y4m_frames.specs.Frames.{File, file_of, frame_len};
 ghost use Rattle.y4m_frames.specs.Reading.{left_of, StandsFor};
@@ -54,20 +54,17 @@ pub(crate) fn copy_frames<S: Shelf, O: Sink>(
 ) -> Result<(), Stop>
     requires runs { reader.old.failed ≡ None }
     requires frame { length frame.old ≡ frame_len reader.old.header }
-    ensures copies { (past : List ℕ) (file : File) → StandsFor reader.old past [] →
-        ForSome (left_of reader.old (S.rest shelf.old)) (λ left. file_of (past ++ left) ≡ Ok file →
-        Copies opening.now (listed from to file.frames)
-        (O.written out.old) (O.written out.new) result) }
-    ensures grown { Grows (O.written out.old) (O.written out.new) }
-    ensures read { IsErrOf result Stop.Read → RoseForSelected (S.selected shelf.old)
-        (S.read_faults shelf.old) (S.read_faults shelf.new) }
-    ensures write { IsErrOf result Stop.Write → FailedWrite (O.faults out.old) (O.faults out.new)
-        (O.room out.old) (O.written out.old) (O.written out.new) }
-    ensures same_room { O.room out.new ≡ O.room out.old }
-    ensures count { Counts (O.faults out.old) (O.faults out.new)
-        (O.room out.old) (O.written out.old) (O.written out.new) }
-    ensures chosen { S.selected shelf.new ≡ S.selected shelf.old }
-    ensures keeps { KeepsShelf S.named S.open_faults S.read_faults shelf.old shelf.new }
+    ensures copies { (past : List ℕ) (file : File) → StandsFor reader.old past []
+        → ForSome (left_of reader.old (S.told shelf.old).rest) (λ left.
+        file_of (past ++ left) ≡ Ok file
+        → Copies opening.now (listed from to file.frames)
+        (O.told out.old).written (O.told out.new).written result) }
+    ensures grown { Grows (O.told out.old).written (O.told out.new).written }
+    ensures read { IsErrOf result Stop.Read → FailedRead (S.told shelf.old) (S.told shelf.new) }
+    ensures write { IsErrOf result Stop.Write → FailedWrite (O.told out.old) (O.told out.new) }
+    ensures keeps_sink { KeepsSink (O.told out.old) (O.told out.new) }
+    ensures chosen { (S.told shelf.new).selected ≡ (S.told shelf.old).selected }
+    ensures keeps { KeepsShelf (S.told shelf.old) (S.told shelf.new) }
 {
     let mut count: u64 = 0;
     'frames: while count <= to as u64 {
@@ -88,7 +85,7 @@ fn write_piece<O: Sink>(
     samples: &[u8],
     out: &mut O,
 ) -> Result<(), Failed>
-    ensures { Sends O.written O.faults O.room out.old out.new
+    ensures { Sends (O.told out.old) (O.told out.new)
         (piece first opening.now samples.now) result }
 {
     if first {
@@ -106,7 +103,7 @@ fn write_listed<O: Sink>(
     samples: &[u8],
     out: &mut O,
 ) -> Result<(), Failed>
-    ensures { Sends O.written O.faults O.room out.old out.new
+    ensures { Sends (O.told out.old) (O.told out.new)
         (listed_piece from count opening.now samples.now) result }
 {
     if from <= count {

@@ -1,11 +1,13 @@
 //! The job of `cut`.
 ghost use Rattle.std.specs.Prelude.{◌≡◌, ◌≤◌, ◌+◌, ◌*◌, length, Ok, IfOk, IfErr, IsErrOf, None, Some};
 ghost use Rattle.std.specs.Option.{ForSome};
-ghost use Rattle.mv_ends.specs.Causes.{Counts, FailedWrite, Rose};
+ghost use Rattle.mv_ends.specs.Causes.{FailedWrite, Rose};
+ghost use Rattle.mv_ends.specs.Commands.{Runs};
 ghost use Rattle.mv_ends.specs.Endings.{ending_of};
 ghost use Rattle.mv_ends.specs.Ends.{Ends};
 ghost use Rattle.mv_ends.specs.Moves.{input_of};
-ghost use Rattle.mv_ends.specs.Shelves.{KeepsShelf};
+ghost use Rattle.mv_ends.specs.Kept.{KeepsShelf, KeepsSink};
+ghost use Rattle.cut_list.specs.Command.{cut_command};
 ghost use Rattle.cut_list.specs.Cut.{AreListed, FailsToOpenCut, FailsToOpenLine, FailsToReadCut, FailsToReadLine, IsCutStatus, cut_outcome, outcome_by};
 ghost use Rattle.cut_list.specs.Steps.{IsUnlisted, halted_status};
 
@@ -21,30 +23,38 @@ use y4m_frames::read_all;
 /// and for each line the frames that it lists. The list is the input of the name `list`; it is read
 /// whole before anything is written.
 pub fn cut_job<S: Shelf, O: Sink>(alloc: Global, list: &str, shelf: &mut S, out: &mut O) -> Status
+    ensures runs { Runs (cut_command list.now) (S.told shelf.old) (S.told shelf.new)
+        (O.told out.old) (O.told out.new) result }
+    ensures keeps_sink { KeepsSink (O.told out.old) (O.told out.new) }
+    ensures kept { KeepsShelf (S.told shelf.old) (S.told shelf.new) }
+{
+    cut_named(alloc, list, shelf, out)
+}
+
+// Does what `cut_job` says, fact by fact.
+fn cut_named<S: Shelf, O: Sink>(alloc: Global, list: &str, shelf: &mut S, out: &mut O) -> Status
     // Where the inputs are told, it ends as it is defined, but for want of memory and for the
     // faults below.
-    ensures ends { ForSome (S.named shelf.old)
-        (λ inputs. Ends (cut_outcome inputs list.now) (ending_of result) (O.written out.old)
-        (O.written out.new)) }
+    ensures ends { ForSome (S.told shelf.old).named
+        (λ inputs. Ends (cut_outcome inputs list.now) (ending_of result) (O.told out.old).written
+        (O.told out.new).written) }
 
     // Also where they aren't told, no other statuses come.
     ensures kind { IsCutStatus result }
 
     // A fault of an endpoint is answered only where it was counted in this call, for the list or
     // for the input of one of its lines, with the output of the lines before it.
-    ensures open_fault { result ≡ Status.OpenFault → FailsToOpenCut list.now (S.named shelf.old)
-        (S.open_faults shelf.old) (S.open_faults shelf.new)
-        (O.written out.old) (O.written out.new) }
-    ensures read_fault { result ≡ Status.ReadFault → FailsToReadCut list.now (S.named shelf.old)
-        (S.read_faults shelf.old) (S.read_faults shelf.new)
-        (O.written out.old) (O.written out.new) }
-    ensures write_fault { result ≡ Status.WriteFault → FailedWrite (O.faults out.old)
-        (O.faults out.new) (O.room out.old) (O.written out.old) (O.written out.new) }
+    ensures open_fault { result ≡ Status.OpenFault
+        → FailsToOpenCut list.now (S.told shelf.old) (S.told shelf.new) (O.told out.old)
+        (O.told out.new) }
+    ensures read_fault { result ≡ Status.ReadFault
+        → FailsToReadCut list.now (S.told shelf.old) (S.told shelf.new) (O.told out.old)
+        (O.told out.new) }
+    ensures write_fault { result ≡ Status.WriteFault
+        → FailedWrite (O.told out.old) (O.told out.new) }
 
-    ensures same_room { O.room out.new ≡ O.room out.old }
-    ensures count { Counts (O.faults out.old) (O.faults out.new)
-        (O.room out.old) (O.written out.old) (O.written out.new) }
-    ensures kept { KeepsShelf S.named S.open_faults S.read_faults shelf.old shelf.new }
+    ensures keeps_sink { KeepsSink (O.told out.old) (O.told out.new) }
+    ensures kept { KeepsShelf (S.told shelf.old) (S.told shelf.new) }
 {
     match read_entries(alloc, list, shelf) {
         Ok(entries) => cut_entries(alloc, &entries, shelf, out),
@@ -54,14 +64,15 @@ pub fn cut_job<S: Shelf, O: Sink>(alloc: Global, list: &str, shelf: &mut S, out:
 
 // The entries of the list of this name, or the status of what kept it from being read.
 fn read_entries<S: Shelf>(alloc: Global, list: &str, shelf: &mut S) -> Result<Vec<Entry>, Status>
-    ensures listed { IfOk result (λ entries. AreListed (S.named shelf.old) list.now entries.items) }
+    ensures listed { IfOk result (λ entries.
+        AreListed (S.told shelf.old).named list.now entries.items) }
     ensures few { IfOk result (λ entries. length entries.items ≤ 4096) }
-    ensures refused { IfErr result (λ status. IsUnlisted (S.named shelf.old) list.now status) }
+    ensures refused { IfErr result (λ status. IsUnlisted (S.told shelf.old).named list.now status) }
     ensures open_fault { IsErrOf result Status.OpenFault
-        → Rose (S.open_faults shelf.old list.now) (S.open_faults shelf.new list.now) }
+        → Rose ((S.told shelf.old).open_faults list.now) ((S.told shelf.new).open_faults list.now) }
     ensures read_fault { IsErrOf result Status.ReadFault
-        → Rose (S.read_faults shelf.old list.now) (S.read_faults shelf.new list.now) }
-    ensures kept { KeepsShelf S.named S.open_faults S.read_faults shelf.old shelf.new }
+        → Rose ((S.told shelf.old).read_faults list.now) ((S.told shelf.new).read_faults list.now) }
+    ensures kept { KeepsShelf (S.told shelf.old) (S.told shelf.new) }
 {
     match shelf.select(list) {
         Ok(()) => {}
@@ -97,22 +108,20 @@ fn cut_entries<S: Shelf, O: Sink>(
     out: &mut O,
 ) -> Status
     requires { length entries.now ≤ 4096 }
-    ensures ends { ForSome (S.named shelf.old)
+    ensures ends { ForSome (S.told shelf.old).named
         (λ inputs. Ends (outcome_by (input_of inputs) (Ok entries.now)) (ending_of result)
-        (O.written out.old) (O.written out.new)) }
+        (O.told out.old).written (O.told out.new).written) }
     ensures kind { IsCutStatus result }
-    ensures open_fault { result ≡ Status.OpenFault → FailsToOpenLine (S.named shelf.old) entries.now
-        (S.open_faults shelf.old) (S.open_faults shelf.new)
-        (O.written out.old) (O.written out.new) }
-    ensures read_fault { result ≡ Status.ReadFault → FailsToReadLine (S.named shelf.old) entries.now
-        (S.read_faults shelf.old) (S.read_faults shelf.new)
-        (O.written out.old) (O.written out.new) }
-    ensures write_fault { result ≡ Status.WriteFault → FailedWrite (O.faults out.old)
-        (O.faults out.new) (O.room out.old) (O.written out.old) (O.written out.new) }
-    ensures same_room { O.room out.new ≡ O.room out.old }
-    ensures count { Counts (O.faults out.old) (O.faults out.new)
-        (O.room out.old) (O.written out.old) (O.written out.new) }
-    ensures kept { KeepsShelf S.named S.open_faults S.read_faults shelf.old shelf.new }
+    ensures open_fault { result ≡ Status.OpenFault
+        → FailsToOpenLine entries.now (S.told shelf.old) (S.told shelf.new) (O.told out.old)
+        (O.told out.new) }
+    ensures read_fault { result ≡ Status.ReadFault
+        → FailsToReadLine entries.now (S.told shelf.old) (S.told shelf.new) (O.told out.old)
+        (O.told out.new) }
+    ensures write_fault { result ≡ Status.WriteFault
+        → FailedWrite (O.told out.old) (O.told out.new) }
+    ensures keeps_sink { KeepsSink (O.told out.old) (O.told out.new) }
+    ensures kept { KeepsShelf (S.told shelf.old) (S.told shelf.new) }
 {
     let mut first = None;
     let mut line: usize = 0;

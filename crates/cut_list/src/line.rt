@@ -1,8 +1,8 @@
 //! One line of a cut list.
 ghost use Rattle.std.specs.Prelude.{◌≡◌, ◌≢◌, ◌*◌, ◌≤◌, ℕ, List, [], ◌++◌, length, Ok, None, Some, IfOk, OnOk, OnErr, IsErrOf, IsTrue};
 ghost use Rattle.std.specs.Option.{ForSome};
-ghost use Rattle.mv_ends.specs.Causes.{Counts, FailedWrite, Rose, RoseForSelected};
-ghost use Rattle.mv_ends.specs.Shelves.{KeepsShelf};
+ghost use Rattle.mv_ends.specs.Causes.{FailedWrite, Rose};
+ghost use Rattle.mv_ends.specs.Kept.{KeepsShelf, KeepsSink};
 ghost use Rattle.mv_ends.specs.Moves.{input_of};
 ghost use Rattle.y4m_frames.specs.Frames.{file_of, frame_len};
 ghost use Rattle.cut_list.specs.declared.line.Halted.TheVariants as endings;
@@ -68,21 +68,18 @@ pub(crate) fn cut_line<S: Shelf, O: Sink>(
     shelf: &mut S,
     out: &mut O,
 ) -> Result<FrameHeader, Halted>
-    ensures ends { ForSome (S.named shelf.old) (λ inputs.
+    ensures ends { ForSome (S.told shelf.old).named (λ inputs.
         LineEnds (line_given first from to (file_of (input_of inputs name.now)))
         (first_header first (file_of (input_of inputs name.now)))
-        (O.written out.old) (O.written out.new) result) }
-    ensures grown { Grows (O.written out.old) (O.written out.new) }
+        (O.told out.old).written (O.told out.new).written result) }
+    ensures grown { Grows (O.told out.old).written (O.told out.new).written }
     ensures open { IsErrOf result Halted.Open
-        → Rose (S.open_faults shelf.old name.now) (S.open_faults shelf.new name.now) }
+        → Rose ((S.told shelf.old).open_faults name.now) ((S.told shelf.new).open_faults name.now) }
     ensures read { IsErrOf result Halted.Read
-        → Rose (S.read_faults shelf.old name.now) (S.read_faults shelf.new name.now) }
-    ensures write { IsErrOf result Halted.Write → FailedWrite (O.faults out.old) (O.faults out.new)
-        (O.room out.old) (O.written out.old) (O.written out.new) }
-    ensures same_room { O.room out.new ≡ O.room out.old }
-    ensures count { Counts (O.faults out.old) (O.faults out.new)
-        (O.room out.old) (O.written out.old) (O.written out.new) }
-    ensures keeps { KeepsShelf S.named S.open_faults S.read_faults shelf.old shelf.new }
+        → Rose ((S.told shelf.old).read_faults name.now) ((S.told shelf.new).read_faults name.now) }
+    ensures write { IsErrOf result Halted.Write → FailedWrite (O.told out.old) (O.told out.new) }
+    ensures keeps_sink { KeepsSink (O.told out.old) (O.told out.new) }
+    ensures keeps { KeepsShelf (S.told shelf.old) (S.told shelf.new) }
 {
     match shelf.select(name) {
         Ok(()) => {}

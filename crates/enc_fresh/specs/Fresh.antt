@@ -3,6 +3,7 @@ use Rattle.std.specs.Prelude.{ℕ, ◌*◌, ◌%◌, ◌==◌, Bool, true, false
 use Rattle.std.specs.List.{range_with_len}
 use Rattle.mv_terms.specs.declared.head.PicType.{PicType}
 use Rattle.mv_terms.specs.declared.head.PicType.TheVariants as pic
+use Rattle.mv_terms.specs.declared.head.Structure.TheVariants.{Frame}
 use Rattle.mv_terms.specs.declared.head.Context.{Context}
 use Rattle.mv_terms.specs.declared.head.Head.{Head}
 use Rattle.mv_terms.specs.declared.frame_header.FrameHeader.{FrameHeader}
@@ -38,7 +39,15 @@ abbrev pub fresh_f_code : PicType → ℕ
 fresh_f_code pic.I = 15
 fresh_f_code other = 1
 
--- The head of a fresh picture under a context: frame prediction and frame transform alone, the least precision of DC
+-- top_field_first: where the file has fields, and the bottom one isn't first
+abbrev pub top_first : FrameHeader → Bool
+top_first file = not file.progressive && not file.bottom_first
+
+-- progressive_frame and chroma_420_type, which the bytes of the head say besides
+abbrev pub is_progressive : FrameHeader → Bool
+is_progressive file = file.progressive
+
+-- The head of a fresh picture under a context: a frame, frame prediction and frame transform alone, the least precision of DC
 -- levels, the linear scale, table B.14 and the zigzag scan (H.262, 6.2.3 and 6.2.3.1).
 abbrev pub fresh_head : FrameHeader → Context → PicType → ℕ → Head
 fresh_head file context pic temporal = record {
@@ -47,22 +56,18 @@ fresh_head file context pic temporal = record {
   f_code =
       (fresh_f_code pic ∷ fresh_f_code pic ∷ []) ∷ (fresh_f_code pic ∷ fresh_f_code pic ∷ []) ∷ [];
   dc_precision = 0;
+  structure = Frame;
+  top_first = top_first file;
   frame_only = true;
   concealment = false;
   non_linear = false;
   table_15 = false;
   alternate = false;
+  second = false;
   mb_wide = macroblock_columns file.wide;
   mb_high = macroblock_rows file.progressive file.high;
   matrices = context.matrices;
 }
-
--- what else the head says of the file's fields: top_field_first, and progressive_frame with chroma_420_type
-abbrev pub top_first : FrameHeader → Bool
-top_first file = not file.progressive && not file.bottom_first
-
-abbrev pub is_progressive : FrameHeader → Bool
-is_progressive file = file.progressive
 
 -- the decision of a macroblock: intra, with this scale code, which is in the slice header where a slice starts
 abbrev pub fresh_decision : Bool → ℕ → Decision

@@ -5,7 +5,7 @@ ghost use Rattle.enc_fresh.specs.Fresh.{default_context, default_rate, fresh_f_c
 
 use crate::rate::{FrameRate, exact_rate};
 use mv_terms::{
-    Context, FrameHeader, Head, Matrices, PicType, macroblock_columns, macroblock_rows,
+    Context, FrameHeader, Head, Matrices, PicType, Structure, macroblock_columns, macroblock_rows,
 };
 
 /// The context of a frame file that brings none: its size, scan and frame rate, and the default matrices. The rate is
@@ -58,11 +58,14 @@ pub fn fresh_head(size: &FrameHeader, context: &Context, pic: PicType, temporal:
         temporal,
         f_code: [[f_code; 2]; 2],
         dc_precision: 0,
+        structure: Structure::Frame,
+        top_first: top_first(size),
         frame_only: true,
         concealment: false,
         non_linear: false,
         table_15: false,
         alternate: false,
+        second: false,
         mb_wide: macroblock_columns(size.wide),
         mb_high: macroblock_rows(size.progressive, size.high),
         matrices: context.matrices,

@@ -33,7 +33,7 @@ const ZEROS: [u8; BLOCK] = [0; BLOCK];
 
 /// Writes n zero bytes, in turns. After a failure some of them are not written.
 pub fn send_zeros<O: Sink>(n: u64, out: &mut O) -> Result<(), Failed>
-    ensures { Sends O.written O.faults O.room out.old out.new (zero_bytes n) result }
+    ensures { Sends (O.told out.old) (O.told out.new) (zero_bytes n) result }
 {
     let mut left = n;
     'turns: while left > 0 {
@@ -57,6 +57,3 @@ pub fn joined_law()
     ensures zeros { UnitWithZeros }
     ensures written { WrittenIsCut }
 {}
-
-#[cfg(test)]
-mod tests;

@@ -24,7 +24,7 @@ use Rattle.mv_recon.specs.Decoded.{decoded_behind}
 use Rattle.cert_requant.specs.Requantised.{requantised}
 use Rattle.rec_bury.specs.Exhumed.{source_of}
 use Rattle.rec_legal.specs.FoundRecord.{FoundRecord}
-use Rattle.enc_fresh.specs.Fresh.{default_context, fresh_head, fresh_decisions, top_first, is_progressive}
+use Rattle.enc_fresh.specs.Fresh.{default_context, fresh_head, fresh_decisions, is_progressive}
 use Rattle.enc_glue.specs.Glue.{glue}
 use Rattle.plan_window.specs.declared.summary.Step.{Step}
 use Rattle.plan_window.specs.declared.summary.Mode.{Mode}
@@ -100,6 +100,18 @@ target_of header (Some r) before =
     then record { bytes = r.sheet.context; context = r.context }
     else unwrap_or (in_force before) (default_target header)
 
+-- the sequence part that a frame with such a record has of its own: that of an anchor record
+abbrev pub own_target : Option FoundRecord → Option Target
+own_target None = None
+own_target (Some r) =
+    if is_anchor r.sheet.pic
+    then Some (record { bytes = r.sheet.context; context = r.context })
+    else None
+
+-- what a picture with a sequence part of its own, or without one, is to be read under
+abbrev pub target_under : FrameHeader → Option Target → List CodedStep → Target
+target_under header own before = unwrap_or own (target_of header None before)
+
 -- a record's prefix has a sequence part of its own
 abbrev pub has_own_sequence : Option FoundRecord → Bool
 has_own_sequence guide = option_map_or (λ r. is_some (sequence_bytes r.sheet.prefix)) guide false
@@ -132,20 +144,25 @@ abbrev pub fresh_prefix : Bool → ℕ → List CodedStep → List ℕ
 fresh_prefix anchor frame before =
     if anchor then written_group (group_size frame before == 0) else []
 
-abbrev pub front_under : Recoding → List ℕ → Head → Front
-front_under r prefix head = record {
+-- in a file with this header, with this scale code
+abbrev pub front_under : FrameHeader → ℕ → List ℕ → Head → Front
+front_under header scale prefix head = record {
   prefix = prefix;
-  head_bytes = written_head head (top_first r.header) (is_progressive r.header);
+  head_bytes = written_head head (is_progressive header);
   head = head;
-  decisions = fresh_decisions head r.scale;
+  decisions = fresh_decisions head scale;
   zeros = 0;
 }
 
+abbrev pub new_front : FrameHeader → ℕ → Bool → ℕ → Target → List CodedStep → Front
+new_front header scale anchor frame target before =
+    front_under header scale (fresh_prefix anchor frame before)
+    (fresh_head header target.context (fresh_type anchor)
+    (fresh_temporal anchor frame before))
+
 abbrev pub fresh_front : Recoding → Bool → ℕ → Target → List CodedStep → Front
 fresh_front r anchor frame target before =
-    front_under r (fresh_prefix anchor frame before)
-    (fresh_head r.header target.context (fresh_type anchor)
-    (fresh_temporal anchor frame before))
+    new_front r.header r.scale anchor frame target before
 
 abbrev pub guided_front : FoundRecord → Front
 guided_front r = record {
@@ -199,12 +216,32 @@ step_with step guide target front levels before = record {
   decoded = decoded_behind (pictures_of_steps before) (coded_with front levels);
 }
 
--- a step by this front
+-- a step by this front, from this source
+abbrev pub step_from : Step → Option FoundRecord → Target → Front → Planes → List CodedStep
+    → CodedStep
+step_from step guide target front source before =
+    step_with step guide target front (levels_of front source before) before
+
+-- THE PICTURE of a frame that is coded by a record, wherever that comes from, from a source: an anchor by a record of type I
+-- or P;
+abbrev pub guided_picture : FrameHeader → ℕ → FoundRecord → Planes → List CodedStep → CodedStep
+guided_picture header frame guide source before =
+    step_from (record { frame = frame; anchor = is_anchor guide.sheet.pic; mode = mode.Guided })
+    (Some guide) (target_of header (Some guide) before) (guided_front guide) source before
+
+-- and of one that is coded anew, with this scale code, under its own sequence part or the one in force.
+abbrev pub fresh_picture : FrameHeader → ℕ → ℕ → Bool → Option Target → Planes
+    → List CodedStep → CodedStep
+fresh_picture header scale frame anchor own source before =
+    step_from (record { frame = frame; anchor = anchor; mode = mode.Fresh })
+    None (target_under header own before)
+    (new_front header scale anchor frame (target_under header own before) before) source before
+
+-- a step by this front, from the picture that its frame is a source of
 abbrev pub step_by : Recoding → FrameStep → Option FoundRecord → Target → Front
     → List CodedStep → CodedStep
 step_by r s guide target front before =
-    step_with s.step guide target front (levels_of front (source_in r.header s.frame) before)
-    before
+    step_from s.step guide target front (source_in r.header s.frame) before
 
 -- the record that a frame is coded by
 abbrev pub guide_by : Mode → Option FoundRecord → Option FoundRecord

@@ -1,4 +1,4 @@
-//! The state of recoding, and its steps.
+//! The frames of a file, coded step by step of a plan.
 ghost use Rattle.std.specs.Prelude.{◌≡◌, List, [], ◌∷◌, ℕ, IfOk, Option};
 ghost use Rattle.mv_terms.specs.Ranges.{IsFrameHeader, IsScaleCode};
 ghost use Rattle.mv_ends.specs.Sends.{Sends};
@@ -6,16 +6,13 @@ ghost use Rattle.rec_legal.specs.FoundRecord.{FoundRecord};
 ghost use Rattle.enc_guided.specs.Recoded.{Recoding, FrameStep, coded_step, coded_steps, ending_of};
 ghost use Rattle.enc_guided.specs.Stands.{IsFreshStep, IsGuidedStep, StandsFor, frame_step};
 
-use crate::front::Anchor;
-use crate::part::{context_under, is_sent_before, own_part};
+use crate::coder::PictureCoder;
+use crate::part::own_part;
+use crate::picture::make_source;
 use enc_fresh::default_context;
-use enc_glue::send_zeros;
-use mv_bits::Room;
-use mv_ends::{Failed, Sink, send};
-use mv_heads::write_context;
+use mv_ends::{Failed, Sink};
 use mv_planes::Picture;
-use mv_store::RefStore;
-use mv_terms::{Context, Decision, FrameHeader, MacroLevels, NoMemory, PicType};
+use mv_terms::{FrameHeader, NoMemory};
 use plan_window::Step;
 use rec_legal::coded_law;
 use rec_reader::Found;
@@ -24,38 +21,10 @@ use std::alloc::Global;
 /// Codes the frames of a file, step by step of a plan.
 #[derive(Drop)]
 pub struct Recoder {
-    pub(crate) header: FrameHeader,
-    /// The quantiser scale code of fresh pictures.
-    pub(crate) scale: u8,
-    /// The sequence part that a frame without one of its own is read under: that of the last anchor, or before the first
-    /// one the default one.
-    pub(crate) part: Room,
-    pub(crate) context: Context,
-    pub(crate) store: RefStore,
-    /// The type of the picture that was coded last.
-    pub(crate) pic: PicType,
+    pub(crate) coder: PictureCoder,
+    /// The picture that a frame is a source of.
     pub(crate) source: Picture,
-    pub(crate) decisions: Vec<Decision>,
-    pub(crate) levels: Vec<MacroLevels>,
-    /// The prefix and the head of a fresh picture.
-    pub(crate) front: Room,
-    pub(crate) slices: Room,
-    /// How many steps were coded.
-    pub(crate) count: u64,
-    /// The anchor that was coded last.
-    pub(crate) anchor: Option<Anchor>,
-    /// How many zero bytes stand behind the end code of the last step, where its record has one.
-    pub(crate) end: Option<u64>,
 }
-
-/// A sequence part has at most so many bytes.
-const PART_ROOM: usize = 65_536;
-
-/// A group of pictures header and a picture's head.
-const FRONT_ROOM: usize = 26;
-
-/// The slices of a picture have fewer bytes for each macroblock.
-const SLICES_ROOM: usize = 1200;
 
 impl Recoder {
     /// A recoder that has coded no step of a file with this header. Fresh pictures have this quantiser scale code. It
@@ -66,26 +35,10 @@ impl Recoder {
         ensures { IfOk result (λ recoder. (find : List ℕ → Option FoundRecord)
             → StandsFor recoder (record { header = header.now; scale = scale; find = find }) []) }
     {
-        let context = default_context(header);
-        let count = usize::from(context.mb_wide) * usize::from(context.mb_high);
-        let mut part = Room::take(alloc, PART_ROOM).map_err(|_| NoMemory)?;
-        write_context(&context, &mut part);
-        Ok(Recoder {
-            header: *header,
-            scale,
-            part,
-            context,
-            store: RefStore::start(alloc, context.mb_wide, context.mb_high)?,
-            pic: PicType::I,
-            source: Picture::grey(alloc, context.mb_wide, context.mb_high)?,
-            decisions: vec![in alloc; Decision::NONE; count].map_err(|_| NoMemory)?,
-            levels: vec![in alloc; MacroLevels::NONE; count].map_err(|_| NoMemory)?,
-            front: Room::take(alloc, FRONT_ROOM).map_err(|_| NoMemory)?,
-            slices: Room::take(alloc, SLICES_ROOM * count).map_err(|_| NoMemory)?,
-            count: 0,
-            anchor: None,
-            end: None,
-        })
+        let size = default_context(header);
+        let coder = PictureCoder::start(alloc, header, scale)?;
+        let source = Picture::grey(alloc, size.mb_wide, size.mb_high)?;
+        Ok(Recoder { coder, source })
     }
 
     /// Codes a frame by the record that was found in it, and writes what the step has in the stream. It stands for the step
@@ -104,15 +57,13 @@ impl Recoder {
             → StandsFor self.new r (frame_step step.now frame.now ∷ before) }
         ensures sends { (r : Recoding) (before : List FrameStep) → StandsFor self.old r before
             → IsGuidedStep r before (frame_step step.now frame.now) found.now
-            → Sends O.written O.faults O.room out.old out.new
+            → Sends (O.told out.old) (O.told out.new)
             (coded_step r (frame_step step.now frame.now) (coded_steps r before)).bytes result }
     {
-        // for the proof: a picture can be coded by a record
+        // for the proof: the headers of a record that is found are legal
         coded_law();
-        let changes = self.bring_into_force(step, &own_part(&Some(*found)));
-        let repeats = is_sent_before(changes, found.record.sheet.prefix);
-        self.code_guided(step, frame, found);
-        self.send_guided(repeats, &found.record.sheet, out)
+        make_source(frame, &mut self.source);
+        self.coder.guided(step.frame, found, &self.source, out)
     }
 
     /// Codes a frame anew, under the sequence part of its own record where it has an anchor record, and writes what the step
@@ -131,32 +82,25 @@ impl Recoder {
             → StandsFor self.new r (frame_step step.now frame.now ∷ before) }
         ensures sends { (r : Recoding) (before : List FrameStep) → StandsFor self.old r before
             → IsFreshStep r before (frame_step step.now frame.now) found.entry
-            → Sends O.written O.faults O.room out.old out.new
+            → Sends (O.told out.old) (O.told out.new)
             (coded_step r (frame_step step.now frame.now) (coded_steps r before)).bytes result }
     {
-        // for the proof: the context of a record is legal
+        // for the proof: the headers of a record that is found are legal
         coded_law();
+        make_source(frame, &mut self.source);
         let own = own_part(&found);
-        let repeats = self.bring_into_force(step, &own);
-        let context = context_under(&own, &self.context);
-        self.code_fresh(step, frame, &context);
-        self.send_fresh(repeats, out)
+        self.coder
+            .fresh(step.frame, step.anchor, own, &self.source, out)
     }
 
     /// Writes what stands behind the last step: its end code with the zero bytes behind it, where its record has one.
     pub fn finish<O: Sink>(&self, out: &mut O) -> Result<(), Failed>
         requires { (r : Recoding) × (steps : List FrameStep) × StandsFor self.now r steps }
         ensures { (r : Recoding) (steps : List FrameStep) → StandsFor self.now r steps
-            → Sends O.written O.faults O.room out.old out.new
+            → Sends (O.told out.old) (O.told out.new)
             (ending_of (coded_steps r steps)) result }
     {
-        match self.end {
-            None => Ok(()),
-            Some(zeros) => {
-                send(out, &END_CODE)?;
-                send_zeros(zeros, out)
-            }
-        }
+        self.coder.finish(out)
     }
 
     /// The decoded picture of the last step.
@@ -165,9 +109,6 @@ impl Recoder {
             → StandsFor self.now r (s ∷ before)
             → result.now ≡ (coded_step r s (coded_steps r before)).decoded.picture }
     {
-        self.store.held(self.pic, true).picture
+        self.coder.picture()
     }
 }
-
-/// `sequence_end_code` (H.262, 6.2.1).
-const END_CODE: [u8; 4] = [0, 0, 1, 0xB7];

@@ -28,7 +28,7 @@ use Rattle.enc_stream.proofs.StreamLemmas.{steps_are_stream}
 
 -- ---- the frames of a plan are among those that it is made for
 
-abbrev AreBelow : List ℕ → ℕ → Type 0
+abbrev pub AreBelow : List ℕ → ℕ → Type 0
 AreBelow [] n = Unit {0}
 AreBelow (x ∷ xs) n = (x < n) × AreBelow xs n
 
@@ -44,7 +44,7 @@ group_below anchor (suc i) n le = go (anchor i) (group_below anchor i n (omega (
     go true h = tt
     go false h = (omega (arith, le), h)
 
-order_below : (anchor : ℕ → Bool) (i n : ℕ) → i ≤ n → AreBelow (coding_order anchor i) n
+pub order_below : (anchor : ℕ → Bool) (i n : ℕ) → i ≤ n → AreBelow (coding_order anchor i) n
 order_below anchor zero n le = tt
 order_below anchor (suc i) n le = go (anchor i) (order_below anchor i n (omega (arith, le)))
   where
@@ -90,7 +90,7 @@ known_at f [] i none lt = absurd (omega (arith, lt))
 known_at f (x ∷ xs) zero none lt = refl
 known_at f (x ∷ xs) (suc i) none lt = known_at f xs i none (omega (arith, lt))
 
-frame_there : {A : Type 0} (xs : List A) (i : ℕ) (none : A) → i < length xs → slice_get xs i ≡ Some (get_or xs i none)
+pub frame_there : {A : Type 0} (xs : List A) (i : ℕ) (none : A) → i < length xs → slice_get xs i ≡ Some (get_or xs i none)
 frame_there [] i none lt = absurd (omega (arith, lt))
 frame_there (x ∷ xs) zero none lt = refl
 frame_there (x ∷ xs) (suc i) none lt = frame_there xs i none (omega (arith, lt))

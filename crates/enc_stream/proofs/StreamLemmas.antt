@@ -20,7 +20,7 @@ use Rattle.enc_glue.specs.Joined.{with_end, written}
 use Rattle.enc_guided.specs.Recoded.{CodedStep, FrameStep, Recoding, Target, bytes_of_steps, coded_step, coded_steps, ending_of, has_end, in_force, pictures_of_steps}
 use Rattle.enc_guided.specs.FileSteps.{stream_of_steps}
 use Rattle.enc_guided.specs.Stands.{AreSteps, IsStep, last_zeros, planned_by, zeros_by}
-use Rattle.enc_stream.specs.Stream.{AreAnchorsWhereRecorded, IsAnchorWhereRecorded, IsStreamOf, coded_by_steps, NoStepsAreNothing, StepsAreStream, StepsHaveTheirPictures}
+use Rattle.enc_stream.specs.Stream.{AreAnchorsWhereRecorded, IsAnchorWhereRecorded, IsStreamOf, coded_by_steps, NoStepsAreNothing, StepsAreStream, StepsHaveTheirPictures, StreamsAreInProfile}
 use Rattle.enc_stream.proofs.FrontLemmas.{IsPart, Laws}
 use Rattle.enc_stream.proofs.UnitLemmas.{AreAccepted, Standing, lists_of, since, since_more}
 use Rattle.enc_stream.proofs.StandLemmas.{stand_first, stand_next}
@@ -143,3 +143,7 @@ stands_as_stream laws size done s pictures =
 
 pub steps_are_stream : Laws → StepsAreStream
 steps_are_stream laws r s before is_header is_scale f none = stands_as_stream laws (file_size r.header) (coded_steps r (s ∷ before)) (all_stand laws r is_header is_scale s before f none) (steps_have_their_pictures r (s ∷ before))
+
+-- the length of a stream is room enough for it
+pub streams_are_in_profile : StreamsAreInProfile
+streams_are_in_profile steps bytes is = (record { units = is.units; refusal = None }, is.in_profile (length bytes) (omega arith), refl)

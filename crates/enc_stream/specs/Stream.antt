@@ -6,7 +6,7 @@ use Rattle.mv_terms.specs.CodedPicture.{CodedPicture}
 use Rattle.mv_terms.specs.Order.{display_order}
 use Rattle.mv_terms.specs.Ranges.{IsFrameHeader, IsScaleCode}
 use Rattle.mv_recon.specs.Decoded.{pictures_of}
-use Rattle.mv_units.specs.Profile.{CodedUnit, HasUnitsIn}
+use Rattle.mv_units.specs.Profile.{CodedUnit, HasUnitsIn, IsInProfile}
 use Rattle.plan_window.specs.Fits.{frames_of, step_type}
 use Rattle.plan_window.specs.Links.{is_anchor_record}
 use Rattle.enc_guided.specs.Recoded.{Recoding, FrameStep, CodedStep, coded_steps, pictures_of_steps}
@@ -29,6 +29,11 @@ pub record IsStreamOf (steps : List CodedStep) (bytes : List ℕ) : Type 0 where
       → HasUnitsIn room bytes (record { units = units; refusal = None })
   pub coded : coded_by_units units ≡ coded_by_steps steps
   pub decoded : pictures_of (coded_by_units units) ≡ pictures_of_steps steps
+
+-- LAW: such a stream is in the profile.
+abbrev pub StreamsAreInProfile : Type 0
+StreamsAreInProfile =
+    (steps : List CodedStep) (bytes : List ℕ) → IsStreamOf steps bytes → IsInProfile bytes
 
 -- A frame with an anchor record is an anchor, as in each plan.
 abbrev pub IsAnchorWhereRecorded : Recoding → FrameStep → Type 0

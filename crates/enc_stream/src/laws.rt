@@ -1,5 +1,5 @@
 //! Laws of what is written for steps, for crates above.
-ghost use Rattle.enc_stream.specs.Stream.{FramesAreShown, FramesAreStream, NoStepsAreNothing, StepsAreShown, StepsAreStream, StepsHaveTheirPictures};
+ghost use Rattle.enc_stream.specs.Stream.{FramesAreShown, FramesAreStream, NoStepsAreNothing, StepsAreShown, StepsAreStream, StepsHaveTheirPictures, StreamsAreInProfile};
 
 use enc_fresh::{decisions_law, headers_law};
 use enc_glue::{joined_law, parts_law};
@@ -16,6 +16,7 @@ pub fn stream_law()
     ensures shown { StepsAreShown }
     ensures frames { FramesAreStream }
     ensures frames_shown { FramesAreShown }
+    ensures profile { StreamsAreInProfile }
 {
     // for the proof: of fresh headers and decisions, of units that are written one behind the other, of steps of a plan, of
     // records that are found, and of pictures that are coded by them

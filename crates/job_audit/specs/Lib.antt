@@ -1,5 +1,6 @@
 pub mod Audit
 pub mod StepLines
 pub mod AuditedFile
+pub mod Command
 pub mod Laws
 pub mod Steps

@@ -63,7 +63,7 @@ impl Coder for AuditCoder {
 
 /// Writes the line that is due, if one is.
 fn write_due<O: Sink>(line: &Option<Line>, out: &mut O) -> Result<(), Failed>
-    ensures { Sends O.written O.faults O.room out.old out.new
+    ensures { Sends (O.told out.old) (O.told out.new)
         (option_map_or line_text line.now []) result }
 {
     match line {

@@ -31,7 +31,7 @@ pub(crate) struct Line {
 
 /// Writes a line.
 pub(crate) fn write_line<O: Sink>(line: &Line, out: &mut O) -> Result<(), Failed>
-    ensures { Sends O.written O.faults O.room out.old out.new (line_text line.now) result }
+    ensures { Sends (O.told out.old) (O.told out.new) (line_text line.now) result }
 {
     let mut number = Buffer::new();
     send_all(

@@ -1,5 +1,5 @@
 -- The exits of the loop.
-use Rattle.std.proofs.Common.{◌≡◌, ℕ, ◌+◌, ◌-◌, ◌%◌, ◌<◌, ◌≤◌, Bool, true, false, List, [], ◌∷◌, ◌++◌, length, take, drop, slice_get, Option, Some, None, Result, Ok, Err, refl, sym, ap, ◌∙◌, subst, inl, inr, append_assoc, append-nil, length-append, arith, OnOk, OnErr}
+use Rattle.std.proofs.Common.{◌≡◌, ℕ, ◌+◌, ◌-◌, ◌%◌, ◌<◌, ◌≤◌, Bool, true, false, List, [], ◌∷◌, ◌++◌, length, take, drop, slice_get, Option, Some, None, Result, Ok, Err, refl, sym, ap, ◌∙◌, subst, inl, inr, append-nil, length-append, arith, OnOk, OnErr}
 use Rattle.std.specs.Option.{ForSome}
 use Rattle.std.proofs.lemmas.List.{length-map, length-drop, take_all}
 use Rattle.std.specs.Io.KnownBytes.{Appends}
@@ -7,6 +7,7 @@ use Rattle.mv_ends.specs.Ends.{Ends}
 use Rattle.mv_ends.specs.Endings.{ending_of}
 use Rattle.mv_ends.specs.Moves.{AppendsFront, AppendsPart, Inputs, Opens, input_of}
 use Rattle.mv_ends.proofs.Known.{Appends-trans}
+use Rattle.mv_ends.proofs.SendLaws.{front_first, front_behind}
 use Rattle.mv_terms.specs.declared.frame_header.FrameHeader.{FrameHeader}
 use Rattle.mv_terms.specs.declared.status.FrameFault.{FrameFault}
 use Rattle.mv_terms.specs.declared.status.Status.{Status}
@@ -30,27 +31,6 @@ use Rattle.job_coding.specs.Outcome.{HeaderCoding, AppendsSettled, IsNear, outco
 use Rattle.job_coding.specs.Steps.{EndsFile, FillsSlot}
 use Rattle.job_coding.proofs.Growth.{Below, bytes_begin, steps_begin, few_steps, front_is_less}
 use Rattle.job_coding.proofs.Turns.{Turn, Comes, NoStep, lag, all_pushed, frame_is, nothing_yet}
-
--- a front of the first bytes is a front of all
-front_first : (a b : Option (List ℕ)) (x y : List ℕ) → AppendsFront a b x → AppendsFront a b (x ++ y)
-front_first a b x y h =
-    let left : 0 < length h.back = h.some_left in
-    record {
-      front = h.front;
-      back = h.back ++ y;
-      parts = ap (λ (s : List ℕ). s ++ y) h.parts ∙ append_assoc h.front h.back y;
-      some_left = omega (arith, left, length-append h.back y);
-      grown = h.grown;
-    }
-
-front_behind : (a b c : Option (List ℕ)) (x y : List ℕ) → Appends a b x → AppendsFront b c y → AppendsFront a c (x ++ y)
-front_behind a b c x y h k = record {
-  front = x ++ k.front;
-  back = k.back;
-  parts = ap (λ (s : List ℕ). x ++ s) k.parts ∙ sym (append_assoc x k.front k.back);
-  some_left = k.some_left;
-  grown = Appends-trans a b c x k.front h k.grown;
-}
 
 -- what was appended is at least what was written whole
 appended_long : (p q : List ℕ) (old mid new : Option (List ℕ)) (b x : List ℕ) → old ≡ Some p → new ≡ Some q → Appends old mid b → AppendsFront mid new x → length b ≤ length (drop (length p) q)

@@ -1,12 +1,16 @@
 -- What is appended where a file was read is right, where the defined output is.
-use Rattle.std.proofs.Common.{◌≡◌, ℕ, List, [], append-nil, Option, Some, None, Result, Ok, Err, refl, ◌∙◌}
+use Rattle.std.proofs.Common.{◌≡◌, ℕ, List, [], append-nil, Option, Some, None, Result, Ok, Err, refl, subst, ◌∙◌}
 use Rattle.std.specs.Io.KnownBytes.{Appends, Keeps}
-use Rattle.mv_ends.specs.Ends.{Ends}
+use Rattle.mv_ends.specs.Commands.{Runs}
+use Rattle.mv_ends.specs.Ends.{Ends, Outcome}
 use Rattle.mv_ends.specs.Endings.{ending_of}
+use Rattle.mv_ends.specs.Moves.{Inputs, input_of}
+use Rattle.mv_ends.specs.Told.{ShelfTold, SinkTold}
 use Rattle.mv_terms.specs.declared.status.FrameFault.{FrameFault}
 use Rattle.mv_terms.specs.declared.status.Status.{Status}
 use Rattle.mv_terms.specs.declared.status.Status.TheVariants as status
 use Rattle.y4m_frames.specs.Frames.{File, file_of}
+use Rattle.job_coding.specs.Command.{coding_command}
 use Rattle.job_coding.specs.Outcome.{AppendsRight, HeaderCoding, IsRead, outcome_of, output_by}
 
 keeps : (old new : Option (List ℕ)) → Appends old new [] → Keeps old new
@@ -28,3 +32,10 @@ appends_right IsRight coding bytes s old new right is ends = by_file (file_of by
     by_file : (r : Result File FrameFault) → Appends old new (output_by coding r) → ((file : File) → r ≡ Ok file → IsRight file (output_by coding r)) → AppendsRight IsRight r old new
     by_file (Err fault) appends right = keeps old new appends
     by_file (Ok file) appends right = (output_by coding (Ok file), appends, right file refl)
+
+-- how a call that runs the command ends
+pub runs_end : (coding : HeaderCoding) (name : List ℕ) (old new : ShelfTold) (before after : SinkTold) (s : Status) → Runs (coding_command coding name) old new before after s
+    → (inputs : Inputs) → old.named ≡ Some inputs → Ends (outcome_of coding (input_of inputs name)) (ending_of s) before.written after.written
+runs_end coding name old new before after s runs inputs told =
+    let end = runs.ends inputs told in
+    subst (λ (outcome : Outcome Status). Ends outcome (ending_of s) before.written after.written) end.1 end.2

@@ -63,7 +63,7 @@ pub trait Coder: Sized + Drop {
         ensures sends { (frames : List (List ℕ)) (numbered : List Summary)
             (before : List FrameStep) → stands self.old frames numbered before
             → IsNextStep (coding self.old) before (record { step = step; frame = frame.now })
-            → Sends O.written O.faults O.room out.old out.new
+            → Sends (O.told out.old) (O.told out.new)
             ((coding self.old).bytes before (record { step = step; frame = frame.now })) result }
         ensures coding { coding self.new ≡ coding self.old };
 
@@ -73,6 +73,6 @@ pub trait Coder: Sized + Drop {
             × (steps : List FrameStep) × stands self.old frames numbered steps }
         ensures { (frames : List (List ℕ)) (numbered : List Summary) (steps : List FrameStep)
             → stands self.old frames numbered steps
-            → Sends O.written O.faults O.room out.old out.new
+            → Sends (O.told out.old) (O.told out.new)
             ((coding self.old).ending steps) result };
 }

@@ -1,8 +1,8 @@
 //! The loop over the frames of a file and the steps of their plan.
 ghost use Rattle.std.specs.Prelude.{◌≡◌, ◌≢◌, ℕ, ◌≤◌, ◌^◌, [], List, false, None, length, All};
 ghost use Rattle.std.specs.Io.KnownBytes.{IsAtEnd};
-ghost use Rattle.mv_ends.specs.Causes.{Counts, FailedWrite, RoseForSelected};
-ghost use Rattle.mv_ends.specs.Shelves.{KeepsShelf};
+ghost use Rattle.mv_ends.specs.Causes.{FailedRead, FailedWrite};
+ghost use Rattle.mv_ends.specs.Kept.{KeepsShelf, KeepsSink};
 ghost use Rattle.plan_window.specs.Plan.{ahead};
 ghost use Rattle.plan_window.specs.Stands.{StandsFor};
 ghost use Rattle.y4m_frames.specs.Behind.{IsBehind};
@@ -46,21 +46,19 @@ pub(crate) fn code_frames<S: Shelf, O: Sink, C: Coder>(
     requires runs { reader.old.failed ≡ None }
     ensures ends { (coding : HeaderCoding) (file : List ℕ)
         → coding reader.old.header ≡ C.coding coder.old
-        → IsBehind reader.old (S.rest shelf.old) file []
-        → EndsFile coding file (S.rest shelf.new) (O.written out.old) (O.written out.new) result }
-    ensures done { result ≡ Status.Done → IsAtEnd (S.rest shelf.new) }
+        → IsBehind reader.old (S.told shelf.old).rest file []
+        → EndsFile coding file (S.told shelf.new).rest (O.told out.old).written
+        (O.told out.new).written result }
+    ensures done { result ≡ Status.Done → IsAtEnd (S.told shelf.new).rest }
     ensures kind { IsCodingStatus result }
     ensures no_open { result ≢ Status.OpenFault }
     ensures no_memory { result ≢ Status.NoMemory }
-    ensures read_fault { result ≡ Status.ReadFault → RoseForSelected (S.selected shelf.old)
-        (S.read_faults shelf.old) (S.read_faults shelf.new) }
+    ensures read_fault { result ≡ Status.ReadFault
+        → FailedRead (S.told shelf.old) (S.told shelf.new) }
     ensures write_fault { result ≡ Status.WriteFault
-        → FailedWrite (O.faults out.old) (O.faults out.new)
-        (O.room out.old) (O.written out.old) (O.written out.new) }
-    ensures same_room { O.room out.new ≡ O.room out.old }
-    ensures count { Counts (O.faults out.old) (O.faults out.new)
-        (O.room out.old) (O.written out.old) (O.written out.new) }
-    ensures kept { KeepsShelf S.named S.open_faults S.read_faults shelf.old shelf.new }
+        → FailedWrite (O.told out.old) (O.told out.new) }
+    ensures keeps_sink { KeepsSink (O.told out.old) (O.told out.new) }
+    ensures kept { KeepsShelf (S.told shelf.old) (S.told shelf.new) }
 {
     plan_law();
     numbers_law();

@@ -2,12 +2,14 @@
 ghost use Rattle.std.specs.Prelude.{◌≡◌};
 ghost use Rattle.std.specs.Option.{ForSome};
 ghost use Rattle.std.specs.Io.KnownBytes.{IsAtEnd, Keeps};
-ghost use Rattle.mv_ends.specs.Causes.{Rose, Counts, FailedWrite};
+ghost use Rattle.mv_ends.specs.Causes.{Rose, FailedWrite};
+ghost use Rattle.mv_ends.specs.Commands.{Runs};
 ghost use Rattle.mv_ends.specs.Ends.{Ends};
 ghost use Rattle.mv_ends.specs.Moves.{input_of};
-ghost use Rattle.mv_ends.specs.Shelves.{KeepsShelf};
+ghost use Rattle.mv_ends.specs.Kept.{KeepsShelf, KeepsSink};
 ghost use Rattle.mv_ends.specs.Endings.{ending_of};
 ghost use Rattle.mv_terms.specs.Ranges.{IsScaleCode};
+ghost use Rattle.job_coding.specs.Command.{coding_command};
 ghost use Rattle.job_coding.specs.Outcome.{AppendsTaken, IsCodingStatus, TakesNear, outcome_of};
 
 use crate::coder::Coder;
@@ -33,42 +35,58 @@ pub fn coding_job<S: Shelf, O: Sink, C: Coder>(
     out: &mut O,
 ) -> Status
     requires { IsScaleCode scale }
+    ensures runs { Runs (coding_command (C.coding_of scale) name.now) (S.told shelf.old) (S.told shelf.new)
+        (O.told out.old) (O.told out.new) result }
+    ensures keeps_sink { KeepsSink (O.told out.old) (O.told out.new) }
+    ensures kept { KeepsShelf (S.told shelf.old) (S.told shelf.new) }
+{
+    code_named::<S, O, C>(alloc, name, scale, shelf, out)
+}
+
+/// Does what `coding_job` says, fact by fact.
+fn code_named<S: Shelf, O: Sink, C: Coder>(
+    alloc: Global,
+    name: &str,
+    scale: u8,
+    shelf: &mut S,
+    out: &mut O,
+) -> Status
+    requires { IsScaleCode scale }
     // Where the inputs are told, it ends as it is defined, but for want of memory and for the faults below.
-    ensures ends { ForSome (S.named shelf.old) (λ inputs.
+    ensures ends { ForSome (S.told shelf.old).named (λ inputs.
         Ends (outcome_of (C.coding_of scale) (input_of inputs name.now)) (ending_of result)
-        (O.written out.old) (O.written out.new)) }
+        (O.told out.old).written (O.told out.new).written) }
 
     // Where it is done, the input was read to its end. Also where the inputs aren't told, no other statuses come, and
     // nothing is written where the input isn't opened or memory is wanting.
-    ensures done { result ≡ Status.Done → IsAtEnd (S.rest shelf.new) }
+    ensures done { result ≡ Status.Done → IsAtEnd (S.told shelf.new).rest }
     ensures kind { IsCodingStatus result }
-    ensures unopened { result ≡ Status.OpenFault → Keeps (O.written out.old) (O.written out.new) }
-    ensures no_memory { result ≡ Status.NoMemory → Keeps (O.written out.old) (O.written out.new) }
+    ensures unopened { result ≡ Status.OpenFault
+        → Keeps (O.told out.old).written (O.told out.new).written }
+    ensures no_memory { result ≡ Status.NoMemory
+        → Keeps (O.told out.old).written (O.told out.new).written }
 
     // After a read fault what stands on the output begins what is written for the frames that were wholly read, whatever
     // would have followed them.
     ensures settled { result ≡ Status.ReadFault
-        → AppendsTaken (C.coding_of scale) name.now (S.named shelf.old) (S.rest shelf.new)
-        (O.written out.old) (O.written out.new) }
+        → AppendsTaken (C.coding_of scale) name.now (S.told shelf.old).named (S.told shelf.new).rest
+        (O.told out.old).written (O.told out.new).written }
 
     // Where a write fails, the input was taken less than a piece behind what the next 17 frames need.
     ensures reads_ahead { result ≡ Status.WriteFault
-        → TakesNear (C.coding_of scale) name.now (S.named shelf.old) (S.rest shelf.new)
-        (O.written out.old) (O.written out.new) }
+        → TakesNear (C.coding_of scale) name.now (S.told shelf.old).named (S.told shelf.new).rest
+        (O.told out.old).written (O.told out.new).written }
 
     // A fault of an endpoint is answered only where it was counted in this call, for this very name.
     ensures open_fault { result ≡ Status.OpenFault
-        → Rose (S.open_faults shelf.old name.now) (S.open_faults shelf.new name.now) }
+        → Rose ((S.told shelf.old).open_faults name.now) ((S.told shelf.new).open_faults name.now) }
     ensures read_fault { result ≡ Status.ReadFault
-        → Rose (S.read_faults shelf.old name.now) (S.read_faults shelf.new name.now) }
+        → Rose ((S.told shelf.old).read_faults name.now) ((S.told shelf.new).read_faults name.now) }
     ensures write_fault { result ≡ Status.WriteFault
-        → FailedWrite (O.faults out.old) (O.faults out.new)
-        (O.room out.old) (O.written out.old) (O.written out.new) }
+        → FailedWrite (O.told out.old) (O.told out.new) }
 
-    ensures same_room { O.room out.new ≡ O.room out.old }
-    ensures count { Counts (O.faults out.old) (O.faults out.new)
-        (O.room out.old) (O.written out.old) (O.written out.new) }
-    ensures kept { KeepsShelf S.named S.open_faults S.read_faults shelf.old shelf.new }
+    ensures keeps_sink { KeepsSink (O.told out.old) (O.told out.new) }
+    ensures kept { KeepsShelf (S.told shelf.old) (S.told shelf.new) }
 {
     match shelf.select(name) {
         Ok(()) => {}

@@ -1,8 +1,8 @@
 //! The frames that wait for their steps.
 ghost use Rattle.std.specs.Prelude.{◌≡◌, ◌≢◌, ℕ, ◌%◌, ◌<◌, ◌≤◌, List, Ok, Err, Some, None, true, false, length, map, slice_get, IfOk, OnOk, IsErrOf, All};
 ghost use Rattle.std.specs.Io.KnownBytes.{IsAtEnd};
-ghost use Rattle.mv_ends.specs.Causes.{RoseForSelected};
-ghost use Rattle.mv_ends.specs.Shelves.{KeepsShelf};
+ghost use Rattle.mv_ends.specs.Causes.{FailedRead};
+ghost use Rattle.mv_ends.specs.Kept.{KeepsShelf};
 ghost use Rattle.y4m_frames.specs.Frames.{frame_len};
 ghost use Rattle.job_coding.specs.Steps.{FillsSlot};
 
@@ -55,21 +55,20 @@ impl Slots {
         requires count { length self.old ≡ 17 }
         requires sizes { All (λ frame. length frame ≡ frame_len reader.old.header) self.old }
         ensures fills { FillsSlot self.old self.new number reader.old reader.new
-            (S.rest shelf.old) (S.rest shelf.new) result }
+            (S.told shelf.old).rest (S.told shelf.new).rest result }
         ensures count { length self.new ≡ 17 }
         ensures sizes { All (λ frame. length frame ≡ frame_len reader.new.header) self.new }
         ensures header { (reader.new.header ≡ reader.old.header)
             × (reader.new.line ≡ reader.old.line) }
         ensures room { reader.new.room ≤ reader.old.room }
         ensures falls { IfOk result (λ some. some ≡ true → reader.new.room < reader.old.room) }
-        ensures at_end { IfOk result (λ some. some ≡ false → IsAtEnd (S.rest shelf.new)) }
+        ensures at_end { IfOk result (λ some. some ≡ false → IsAtEnd (S.told shelf.new).rest) }
         ensures runs { OnOk result (reader.new.failed ≡ None) }
         ensures memory { result ≢ Err Halt.NoMemory }
         ensures failed { IsErrOf result Halt.Read → reader.old.failed ≡ None
-            → RoseForSelected (S.selected shelf.old) (S.read_faults shelf.old)
-            (S.read_faults shelf.new) }
-        ensures chosen { S.selected shelf.new ≡ S.selected shelf.old }
-        ensures keeps { KeepsShelf S.named S.open_faults S.read_faults shelf.old shelf.new }
+            → FailedRead (S.told shelf.old) (S.told shelf.new) }
+        ensures chosen { (S.told shelf.new).selected ≡ (S.told shelf.old).selected }
+        ensures keeps { KeepsShelf (S.told shelf.old) (S.told shelf.new) }
     {
         reader.next(shelf, &mut self.frames[(number % COUNT) as usize])
     }

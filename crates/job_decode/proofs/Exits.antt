@@ -2,11 +2,13 @@
 use Rattle.std.proofs.Common.{◌≡◌, ◌≤◌, ◌<◌, ℕ, ◌+◌, ◌-◌, Bool, true, false, List, [], ◌∷◌, ◌++◌, length, take, drop, Option, None, Some, inl, inr, refl, sym, ap, ◌∙◌, subst, append_assoc, append-nil, arith}
 use Rattle.std.proofs.lemmas.List.{length-append, length-drop, take_at}
 use Rattle.std.specs.Io.KnownBytes.{Appends, IsAtEnd, Keeps}
-use Rattle.mv_ends.specs.Causes.{Counts}
 use Rattle.mv_ends.specs.Ends.{Outcome, Ends, open_fault}
+use Rattle.mv_ends.specs.Kept.{KeepsSink}
 use Rattle.mv_ends.specs.Moves.{Inputs, input_of, AppendsFront}
-use Rattle.mv_ends.proofs.Known.{Appends-trans, Keeps-Appends, Counts-trans}
+use Rattle.mv_ends.specs.Told.{SinkTold}
+use Rattle.mv_ends.proofs.Known.{Appends-trans, Keeps-Appends, keeps_sink_trans}
 use Rattle.mv_ends.proofs.Parts.{none_of, all_of}
+use Rattle.mv_ends.proofs.SendLaws.{front_first, front_behind}
 use Rattle.mv_terms.specs.declared.status.Why.{Why}
 use Rattle.mv_terms.specs.declared.status.Status.{Status}
 use Rattle.mv_terms.specs.declared.status.Status.TheVariants as status
@@ -24,7 +26,6 @@ use Rattle.job_decode.specs.Stream.{IsOutcome, status_by, outcome_of, units_show
 use Rattle.job_decode.specs.Steps.{WorkStands, Takes, Finishes, EndsStream}
 use Rattle.job_decode.proofs.OutcomeLaws.{each_has_one}
 use Rattle.job_decode.proofs.Growth.{first_are, few_units}
-use Rattle.job_decode.proofs.Sends.{front_first, front_behind}
 use Rattle.job_decode.proofs.Turns.{Turn, begins, settled, wrong, fed_next, follows, judged_next}
 
 -- ---- the bytes appended
@@ -263,23 +264,23 @@ not_opened law input old =
     let one = each_has_one law input in
     (one.outcome, one.is, (0, subst (λ (xs : List ℕ). Appends old old xs) (sym (ap (λ (o : Outcome Status). o.at_open 0) one.is.2)) (Keeps-Appends old old (kept old))))
 
--- ---- the counts of the sink
+-- ---- what is kept of the sink
 
 appends_same : (a b : Option (List ℕ)) → b ≡ a → Appends a b []
 appends_same a b same = subst (λ (s : Option (List ℕ)). Appends a s []) (sym same) (Keeps-Appends a a (kept a))
 
-pub counts_kept : (f g h room r : ℕ) (a b c : Option (List ℕ)) (x : List ℕ) → Counts f g room a b → r ≡ room → Counts g h r b c → Appends a b x → c ≡ b → Counts f h room a c
-counts_kept f g h room r a b c x first same then written none = Counts-trans f g h room r a b c x [] first same then written (appends_same b c none)
+pub keeps_sink_still : (a b c : SinkTold) (x : List ℕ) → KeepsSink a b → KeepsSink b c → Appends a.written b.written x → c.written ≡ b.written → KeepsSink a c
+keeps_sink_still a b c x first then written none = keeps_sink_trans a b c x [] first then written (appends_same b.written c.written none)
 
 finishes_some : (work : Option Work) (before : List CodedUnit) (answer result : Status) (old new : Option (List ℕ)) → WorkStands work before → Finishes work answer result old new → (bytes : List ℕ) × Appends old new bytes
 finishes_some work before answer result old new stands (inl h) = (held_frame before, h.1 before stands)
 finishes_some work before answer result old new stands (inr h) = let f = h.1 before stands in (f.front, f.grown)
 
-pub exit_counts : (f g h room r : ℕ) (a b c : Option (List ℕ)) (x : List ℕ) (work : Option Work) (before : List CodedUnit) (answer result : Status) → Counts f g room a b → r ≡ room → Counts g h r b c → Appends a b x
-    → WorkStands work before → Finishes work answer result b c → Counts f h room a c
-exit_counts f g h room r a b c x work before answer result first same then written stands finishes =
-    let some = finishes_some work before answer result b c stands finishes in
-    Counts-trans f g h room r a b c x some.0 first same then written some.1
+pub exit_keeps_sink : (a b c : SinkTold) (x : List ℕ) (work : Option Work) (before : List CodedUnit) (answer result : Status) → KeepsSink a b → KeepsSink b c → Appends a.written b.written x
+    → WorkStands work before → Finishes work answer result b.written c.written → KeepsSink a c
+exit_keeps_sink a b c x work before answer result first then written stands finishes =
+    let some = finishes_some work before answer result b.written c.written stands finishes in
+    keeps_sink_trans a b c x some.0 first then written some.1
 
 pub still_written : (a b c : Option (List ℕ)) (x : List ℕ) → Appends a b x → c ≡ b → Appends a c x
 still_written a b c x written same = subst (λ (s : Option (List ℕ)). Appends a s x) (sym same) written

@@ -1,6 +1,5 @@
 mod SequenceLaws
 mod Made
-mod Sends
 mod Keeps
 mod OutcomeLaws
 mod Growth
@@ -8,3 +7,4 @@ mod Works
 mod Feeds
 mod Turns
 mod Exits
+mod ProfileLaws

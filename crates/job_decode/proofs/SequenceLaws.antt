@@ -3,7 +3,7 @@ use Rattle.std.proofs.Common.{◌≡◌, ℕ, ◌+◌, ◌*◌, Bool, true, fals
 use Rattle.std.specs.Prelude.{◌&&◌, not, nat_le, if◌then◌else◌, unwrap_or}
 use Rattle.std.proofs.lemmas.List.{take_at, take_all, length-take}
 use Rattle.std.proofs.lemmas.Bool.{leb-true, leb-false, lt-leb}
-use Rattle.mv_terms.specs.CodedPicture.{macroblocks}
+use Rattle.mv_terms.specs.CodedPicture.{frame_macroblocks}
 use Rattle.mv_planes.specs.Planes.{Planes}
 use Rattle.cert_picture.specs.Records.{FrameParts, frame_by, frame_samples, frame_seal, is_recordable, longest_part, most_zeros, zeros_behind_end}
 use Rattle.job_decode.specs.Steps.{kept_front}
@@ -52,7 +52,7 @@ without_records p q a b same =
 too_long : (p : FrameParts) → nat_le (length p.context) longest_part ≡ false → is_recordable p ≡ false
 too_long p long =
     not_third (not p.extended) (nat_le (length p.context) longest_part) (nat_le (length p.lists.prefix) longest_part) (nat_le (length p.lists.head) longest_part) (nat_le p.lists.zeros most_zeros)
-    (nat_le (zeros_behind_end p.lists) most_zeros) (nat_le (118 + length p.context + length p.lists.prefix + length p.lists.head) (12 * macroblocks p.picture.head)) long
+    (nat_le (zeros_behind_end p.lists) most_zeros) (nat_le (118 + length p.context + length p.lists.prefix + length p.lists.head) (12 * frame_macroblocks p.picture.head)) long
 
 still_long : (bytes : List ℕ) → nat_le (length bytes) longest_part ≡ false → nat_le (length (kept_front bytes)) longest_part ≡ false
 still_long bytes long =

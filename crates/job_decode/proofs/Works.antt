@@ -29,7 +29,9 @@ use Rattle.y4m_frames.specs.FrameFile.{frame}
 use Rattle.cert_picture.specs.FrameFileOf.{UnitFrame, pic_of_frame, pictures_in as pictures_of_frames, frame_behind, frames_of, bytes_of, opening, gives, held_frame}
 use Rattle.cert_picture.proofs.FrameFileLaws.{frames_have_pictures}
 use Rattle.mv_planes.specs.declared.coded.Coded.{Coded}
-use Rattle.mv_terms.specs.CodedPicture.{macroblocks}
+use Rattle.mv_terms.specs.CodedPicture.{frame_macroblocks}
+use Rattle.mv_terms.specs.Structures.{IsOfFrame}
+use Rattle.cert_picture.proofs.RecordLemmas.{all_of_frame}
 use Rattle.mv_terms.specs.declared.head.Head.{Head}
 use Rattle.mv_predict.specs.Blocks.{HasSizeOf}
 use Rattle.job_decode.specs.declared.frames.FrameMaker.{FrameMaker}
@@ -231,12 +233,12 @@ started work mb_wide mb_high lists s fits = record {
 
 -- the size that a lent picture has
 pub record IsOfWork (mb_wide mb_high : ℕ) (coded : Coded) : Type 0 where
-  pub count : macroblocks coded.head.now ≡ mb_wide * mb_high
+  pub count : frame_macroblocks coded.head.now ≡ mb_wide * mb_high
   pub samples : 2 * length coded.picture.now.samples ≡ 768 * (mb_wide * mb_high)
 
-pub size_is : (before : List CodedUnit) (u : CodedUnit) (mb_wide mb_high : ℕ) (coded : Coded) → IsLent coded u before → HasSizeOf coded.head.now coded.picture.now
+pub size_is : (before : List CodedUnit) (u : CodedUnit) (mb_wide mb_high : ℕ) (coded : Coded) → IsLent coded u before → IsOfFrame coded.head.now → HasSizeOf coded.head.now coded.picture.now
     → u.picture.head.mb_wide ≡ mb_wide → u.picture.head.mb_high ≡ mb_high → IsOfWork mb_wide mb_high coded
-size_is before u mb_wide mb_high coded lent size wide high =
+size_is before u mb_wide mb_high coded lent frame size wide high =
     let head = coded.head.now in
     let whole : IsWhole coded.picture.now = subst (λ (p : Planes). IsWhole p) (sym lent.picture) (pictures_have_their_samples (prediction_from (references_behind (pictures_in before) u.picture) u.picture) u.picture).whole in
     let as_wide : head.mb_wide ≡ mb_wide = ap (λ (h : Head). h.mb_wide) lent.head ∙ wide in
@@ -244,7 +246,7 @@ size_is before u mb_wide mb_high coded lent size wide high =
     let count : head.mb_wide * head.mb_high ≡ mb_wide * mb_high = ap (λ (k : ℕ). k * head.mb_high) as_wide ∙ ap (λ (k : ℕ). mb_wide * k) as_high in
     let planes : coded.picture.now.mb_wide * coded.picture.now.mb_high ≡ mb_wide * mb_high = ap (λ (k : ℕ). k * coded.picture.now.mb_high) size.wide ∙ (ap (λ (k : ℕ). head.mb_wide * k) size.high ∙ count) in
     let samples : length coded.picture.now.samples ≡ 384 * (mb_wide * mb_high) = whole ∙ ap (λ (k : ℕ). 384 * k) planes in
-    record { count = count; samples = omega (arith, samples) }
+    record { count = all_of_frame head frame ∙ count; samples = omega (arith, samples) }
 
 pub frames_for : (count n : ℕ) (maker : FrameMaker) (frames : List UnitFrame) → count ≡ n → MakesFrames n maker frames → MakesFrames count maker frames
 frames_for count n maker frames same h = subst (λ (k : ℕ). MakesFrames k maker frames) (sym same) h
@@ -254,7 +256,7 @@ unfolding frames_of
 frames_more before u n maker h = h
 
 pub decoded : (old mid : Work) (before : List CodedUnit) (lists : UnitLists) (shown : Shown) (coded : Coded) (m : MayTake old before lists) → (d : DecoderDecodes m.stands.mb_wide m.stands.mb_high mid.decoder before lists shown)
-    → IsOfWork m.stands.mb_wide m.stands.mb_high coded → HasMade (macroblocks coded.head.now) mid.frames mid.next.items (frames_of before) d.unit
+    → IsOfWork m.stands.mb_wide m.stands.mb_high coded → HasMade (frame_macroblocks coded.head.now) mid.frames mid.next.items (frames_of before) d.unit
     → length mid.next.items ≡ length old.next.items → mid.held ≡ old.held → mid.holds ≡ old.holds → HasDecoded old mid before lists shown
 decoded old mid before lists shown coded m d size made same_room held holds = record {
   unit = d.unit;
@@ -262,8 +264,8 @@ decoded old mid before lists shown coded m d size made same_room held holds = re
   mb_wide = m.stands.mb_wide;
   mb_high = m.stands.mb_high;
   decoder = d.accepted.stands;
-  frames = frames_for (m.stands.mb_wide * m.stands.mb_high) (macroblocks coded.head.now) mid.frames (frames_of (d.unit ∷ before)) (sym size.count)
-      (frames_more before d.unit (macroblocks coded.head.now) mid.frames made.stands);
+  frames = frames_for (m.stands.mb_wide * m.stands.mb_high) (frame_macroblocks coded.head.now) mid.frames (frames_of (d.unit ∷ before)) (sym size.count)
+      (frames_more before d.unit (frame_macroblocks coded.head.now) mid.frames made.stands);
   shown_is = d.shown_is ∙ answer_is before d.unit.picture.head.pic;
   next = made.samples_are;
   held = held;

@@ -1,6 +1,6 @@
 //! The frames of units, one after the other.
 ghost use Rattle.std.specs.Prelude.{◌≡◌, ◌*◌, List, [], IfOk, length};
-ghost use Rattle.mv_terms.specs.CodedPicture.{macroblocks};
+ghost use Rattle.mv_terms.specs.CodedPicture.{frame_macroblocks};
 ghost use Rattle.mv_terms.specs.UnitLists.{lent_unit};
 ghost use Rattle.mv_bits.specs.Zeros.{zeros_at_end};
 ghost use Rattle.mv_units.specs.Profile.{Accepts, CodedUnit, heads_in};
@@ -44,13 +44,13 @@ impl FrameMaker {
         requires legal { LendsLegal coded.now }
         requires slices { zeros_at_end unit.now.slices.now ≡ 0 }
         requires stands { (u : CodedUnit) × (before : List CodedUnit)
-            × MakesFrames (macroblocks coded.now.head.now) self.old (frames_of before)
+            × MakesFrames (frame_macroblocks coded.now.head.now) self.old (frames_of before)
             × IsLent coded.now u before × Accepts (heads_in before) (lent_unit unit.now) u }
         requires room { length to.old.items ≡ 2 * length coded.now.picture.now.samples }
         ensures made { (u : CodedUnit) (before : List CodedUnit)
-            → MakesFrames (macroblocks coded.now.head.now) self.old (frames_of before)
+            → MakesFrames (frame_macroblocks coded.now.head.now) self.old (frames_of before)
             → IsLent coded.now u before → u.lists ≡ lent_unit unit.now
-            → HasMade (macroblocks coded.now.head.now) self.new to.new.items (frames_of before) u }
+            → HasMade (frame_macroblocks coded.now.head.now) self.new to.new.items (frames_of before) u }
         ensures length { length to.new.items ≡ length to.old.items }
     {
         let pic = coded.head.pic;

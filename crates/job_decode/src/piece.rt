@@ -1,9 +1,9 @@
 //! The bytes of a stream: read a piece at a time, and fed to the cutter.
 ghost use Rattle.std.specs.Prelude.{◌≡◌, ◌<◌, List, [], ℕ, Option, IfOk, OnOk, OnErr, length};
 ghost use Rattle.mv_units.specs.Units.{cut_of};
-ghost use Rattle.mv_ends.specs.Causes.{RoseForSelected};
+ghost use Rattle.mv_ends.specs.Causes.{FailedRead};
 ghost use Rattle.mv_ends.specs.Moves.{Inputs};
-ghost use Rattle.mv_ends.specs.Shelves.{KeepsShelf};
+ghost use Rattle.mv_ends.specs.Kept.{KeepsShelf};
 ghost use Rattle.mv_terms.specs.UnitLists.{UnitLists};
 ghost use Rattle.job_decode.specs.Steps.{Fits, IsFed, left_to_do, unfed};
 ghost use Rattle.job_decode.specs.Stream.{piece_limit};
@@ -48,17 +48,16 @@ pub(crate) fn advance<S: Shelf>(
     requires more { cut_of cutter.old ≡ Cut.More }
     requires fits { Fits piece.old cutter.old }
     ensures fed { (named : Option Inputs) (name : List ℕ) (let_go : List UnitLists)
-        → IsFed named name (S.rest shelf.old) cutter.old (unfed piece.old) let_go
-        → IsFed named name (S.rest shelf.new) cutter.new (unfed piece.new) let_go }
+        → IsFed named name (S.told shelf.old).rest cutter.old (unfed piece.old) let_go
+        → IsFed named name (S.told shelf.new).rest cutter.new (unfed piece.new) let_go }
     ensures fits { OnOk result (Fits piece.new cutter.new) }
     ensures room { cutter.new.room ≡ cutter.old.room }
     ensures less { OnOk result (left_to_do piece.new cutter.new < left_to_do piece.old cutter.old) }
     ensures none { OnErr result ((unfed piece.new ≡ []) × (cutter.new ≡ cutter.old)) }
     ensures failed { OnErr result
-        (RoseForSelected (S.selected shelf.old)
-        (S.read_faults shelf.old) (S.read_faults shelf.new)) }
-    ensures chosen { S.selected shelf.new ≡ S.selected shelf.old }
-    ensures kept { KeepsShelf S.named S.open_faults S.read_faults shelf.old shelf.new }
+        (FailedRead (S.told shelf.old) (S.told shelf.new)) }
+    ensures chosen { (S.told shelf.new).selected ≡ (S.told shelf.old).selected }
+    ensures kept { KeepsShelf (S.told shelf.old) (S.told shelf.new) }
 {
     if piece.at < piece.end {
         piece.at += cutter.feed(&piece.bytes[piece.at..piece.end]);

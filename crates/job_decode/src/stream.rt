@@ -1,9 +1,9 @@
 //! The loop over the units of a stream.
 ghost use Rattle.std.specs.Prelude.{◌≡◌, List, ℕ, [], None, IsTrue};
 ghost use Rattle.std.specs.Option.{ForSome};
-ghost use Rattle.mv_ends.specs.Causes.{Counts, FailedWrite, Rose};
+ghost use Rattle.mv_ends.specs.Causes.{FailedWrite, Rose};
 ghost use Rattle.mv_ends.specs.Moves.{Opens};
-ghost use Rattle.mv_ends.specs.Shelves.{KeepsShelf};
+ghost use Rattle.mv_ends.specs.Kept.{KeepsShelf, KeepsSink};
 ghost use Rattle.job_decode.specs.Steps.{EndsStream};
 
 use crate::piece::{Piece, advance};
@@ -20,19 +20,16 @@ pub(crate) fn decode_stream<S: Shelf, O: Sink>(
     shelf: &mut S,
     out: &mut O,
 ) -> Status
-    requires opened { Opens (S.named shelf.old) name.now (S.rest shelf.old) }
-    requires chosen { IsTrue (S.selected shelf.old name.now) }
-    ensures ends { EndsStream (S.named shelf.old) name.now (S.rest shelf.new)
-        (O.written out.old) (O.written out.new) result }
+    requires opened { Opens (S.told shelf.old).named name.now (S.told shelf.old).rest }
+    requires chosen { IsTrue ((S.told shelf.old).selected name.now) }
+    ensures ends { EndsStream (S.told shelf.old).named name.now (S.told shelf.new).rest
+        (O.told out.old).written (O.told out.new).written result }
     ensures read_fault { result ≡ Status.ReadFault
-        → Rose (S.read_faults shelf.old name.now) (S.read_faults shelf.new name.now) }
+        → Rose ((S.told shelf.old).read_faults name.now) ((S.told shelf.new).read_faults name.now) }
     ensures write_fault { result ≡ Status.WriteFault
-        → FailedWrite (O.faults out.old) (O.faults out.new)
-        (O.room out.old) (O.written out.old) (O.written out.new) }
-    ensures same_room { O.room out.new ≡ O.room out.old }
-    ensures count { Counts (O.faults out.old) (O.faults out.new)
-        (O.room out.old) (O.written out.old) (O.written out.new) }
-    ensures kept { KeepsShelf S.named S.open_faults S.read_faults shelf.old shelf.new }
+        → FailedWrite (O.told out.old) (O.told out.new) }
+    ensures keeps_sink { KeepsSink (O.told out.old) (O.told out.new) }
+    ensures kept { KeepsShelf (S.told shelf.old) (S.told shelf.new) }
 {
     let Ok(mut piece) = Piece::start(alloc) else {
         return Status::NoMemory;

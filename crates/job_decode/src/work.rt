@@ -1,7 +1,8 @@
 //! What a unit of a stream comes to: its frame, and what is shown when it comes.
 ghost use Rattle.std.specs.Prelude.{◌≡◌, ◌≢◌, ◌++◌, ⊤, List, [], None, Some, IfOk, IfErr, IfSome, IsErrOf, option_copied};
 ghost use Rattle.std.specs.Io.KnownBytes.{Appends};
-ghost use Rattle.mv_ends.specs.Causes.{Counts, FailedWrite};
+ghost use Rattle.mv_ends.specs.Kept.{KeepsSink};
+ghost use Rattle.mv_ends.specs.Causes.{FailedWrite};
 ghost use Rattle.mv_ends.specs.Moves.{AppendsFront};
 ghost use Rattle.mv_ends.specs.Sends.{Sends};
 ghost use Rattle.mv_terms.specs.Ranges.{IsContext};
@@ -52,13 +53,10 @@ pub(crate) fn take_unit<O: Sink>(
     requires stands { (before : List CodedUnit) × WorkStands work.old before }
     ensures steps { (before : List CodedUnit) → WorkStands work.old before
         → StepsTo (λ units. WorkStands work.new units) before (lent_unit unit.now)
-        (O.written out.old) (O.written out.new) result }
-    ensures same_room { O.room out.new ≡ O.room out.old }
-    ensures count { Counts (O.faults out.old) (O.faults out.new)
-        (O.room out.old) (O.written out.old) (O.written out.new) }
+        (O.told out.old).written (O.told out.new).written result }
+    ensures keeps_sink { KeepsSink (O.told out.old) (O.told out.new) }
     ensures failed { IsErrOf result Stop.WriteFault
-        → FailedWrite (O.faults out.old) (O.faults out.new)
-        (O.room out.old) (O.written out.old) (O.written out.new) }
+        → FailedWrite (O.told out.old) (O.told out.new) }
 {
     match work {
         Some(work) => step(false, unit, work, out),
@@ -110,14 +108,11 @@ fn step<O: Sink>(
         × (first ≡ is_empty before) }
     ensures steps { (before : List CodedUnit) → MayTake work.old before (lent_unit unit.now)
         → first ≡ is_empty before
-        → StepsTo (λ units. IsWork work.new units) before (lent_unit unit.now) (O.written out.old)
-        (O.written out.new) result }
-    ensures same_room { O.room out.new ≡ O.room out.old }
-    ensures count { Counts (O.faults out.old) (O.faults out.new)
-        (O.room out.old) (O.written out.old) (O.written out.new) }
+        → StepsTo (λ units. IsWork work.new units) before (lent_unit unit.now)
+        (O.told out.old).written (O.told out.new).written result }
+    ensures keeps_sink { KeepsSink (O.told out.old) (O.told out.new) }
     ensures failed { IsErrOf result Stop.WriteFault
-        → FailedWrite (O.faults out.old) (O.faults out.new)
-        (O.room out.old) (O.written out.old) (O.written out.new) }
+        → FailedWrite (O.told out.old) (O.told out.new) }
 {
     let shown = match decode_unit(unit, work) {
         Ok(shown) => shown,
@@ -154,7 +149,7 @@ fn write_due<O: Sink>(
     out: &mut O,
 ) -> Result<(), Failed>
     requires { IfSome context (λ context. IsContext context.now) }
-    ensures { Sends O.written O.faults O.room out.old out.new
+    ensures { Sends (O.told out.old) (O.told out.new)
         (heading first (option_copied context.entry)
         ++ shown_frame shown work.now.held.items work.now.next.items) result }
 {
@@ -165,7 +160,7 @@ fn write_due<O: Sink>(
 /// Writes the header line for this sequence, where its unit is the first one.
 fn write_heading<O: Sink>(first: bool, context: Option<&Context>, out: &mut O) -> Result<(), Failed>
     requires { IfSome context (λ context. IsContext context.now) }
-    ensures { Sends O.written O.faults O.room out.old out.new
+    ensures { Sends (O.told out.old) (O.told out.new)
         (heading first (option_copied context.entry)) result }
 {
     match context {
@@ -176,7 +171,7 @@ fn write_heading<O: Sink>(first: bool, context: Option<&Context>, out: &mut O) -
 
 /// Writes the frame that is shown now.
 fn write_shown<O: Sink>(shown: Shown, held: &[u8], next: &[u8], out: &mut O) -> Result<(), Failed>
-    ensures { Sends O.written O.faults O.room out.old out.new
+    ensures { Sends (O.told out.old) (O.told out.new)
         (shown_frame shown held.now next.now) result }
 {
     match shown {
@@ -199,13 +194,11 @@ fn keep(shown: Shown, work: &mut Work)
 /// Writes the frame that is held, where one is, and answers the status, or that writing failed.
 pub(crate) fn finish<O: Sink>(work: &Option<Work>, status: Status, out: &mut O) -> Status
     requires { status ≢ Status.WriteFault }
-    ensures ends { Finishes work.now status result (O.written out.old) (O.written out.new) }
-    ensures same_room { O.room out.new ≡ O.room out.old }
-    ensures count { Counts (O.faults out.old) (O.faults out.new)
-        (O.room out.old) (O.written out.old) (O.written out.new) }
+    ensures ends { Finishes work.now status result (O.told out.old).written
+        (O.told out.new).written }
+    ensures keeps_sink { KeepsSink (O.told out.old) (O.told out.new) }
     ensures failed { result ≡ Status.WriteFault
-        → FailedWrite (O.faults out.old) (O.faults out.new)
-        (O.room out.old) (O.written out.old) (O.written out.new) }
+        → FailedWrite (O.told out.old) (O.told out.new) }
 {
     match write_held(work, out) {
         Ok(()) => status,
@@ -215,7 +208,7 @@ pub(crate) fn finish<O: Sink>(work: &Option<Work>, status: Status, out: &mut O) 
 
 /// Writes the frame that is held, where one is.
 fn write_held<O: Sink>(work: &Option<Work>, out: &mut O) -> Result<(), Failed>
-    ensures { Sends O.written O.faults O.room out.old out.new (held_bytes work.now) result }
+    ensures { Sends (O.told out.old) (O.told out.new) (held_bytes work.now) result }
 {
     match work {
         Some(work) if work.holds => write_frame(&work.held, out),

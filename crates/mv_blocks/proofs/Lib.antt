@@ -13,6 +13,5 @@ mod DcWritten
 mod CountLemmas
 mod PlaceLemmas
 mod WriteLemmas
-mod WritableLaws
 pub mod BlockBack
 pub mod LegalLaws

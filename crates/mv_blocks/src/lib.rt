@@ -14,6 +14,3 @@ mod write_laws;
 pub use block::{BlockCode, Pair, pairs, read_block};
 pub use write::{has_level, write_block};
 pub use write_laws::written_law;
-
-#[cfg(test)]
-mod tests;

@@ -35,6 +35,3 @@ pub use pattern::read_pattern;
 pub use put_coefficient::{write_coefficient, write_end};
 pub use write::{write_dc_size, write_increment, write_motion, write_pattern, write_type};
 pub use write_laws::written_law;
-
-#[cfg(test)]
-mod tests;

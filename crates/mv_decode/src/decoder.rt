@@ -18,7 +18,7 @@ use mv_planes::Coded;
 use mv_recon::reconstruct;
 use mv_slices::read_slices;
 use mv_store::{Held, Lent, RefStore, Shown};
-use mv_terms::{Context, Decision, Head, MacroLevels, Matrices, NoMemory, PicType, UnitParts, Why};
+use mv_terms::{Context, Decision, Head, MacroLevels, NoMemory, UnitParts, Why};
 use std::alloc::Global;
 
 /// Decodes the units of a stream in turn.
@@ -26,27 +26,11 @@ use std::alloc::Global;
 pub struct Decoder {
     heads: HeadState,
     store: RefStore,
-    /// The head of the unit accepted last.
+    /// The head of the unit accepted last, or that of no picture before the first of them.
     head: Head,
     decisions: Vec<Decision>,
     levels: Vec<MacroLevels>,
 }
-
-/// Stands where no unit was accepted yet.
-const NO_HEAD: Head = Head {
-    pic: PicType::I,
-    temporal: 0,
-    f_code: [[0; 2]; 2],
-    dc_precision: 0,
-    frame_only: true,
-    concealment: false,
-    non_linear: false,
-    table_15: false,
-    alternate: false,
-    mb_wide: 0,
-    mb_high: 0,
-    matrices: Matrices::DEFAULT,
-};
 
 impl Decoder {
     /// A decoder of units whose pictures have the size of this context. It takes three pictures, and the decisions and
@@ -62,7 +46,7 @@ impl Decoder {
         Ok(Decoder {
             heads: HeadState::new(),
             store,
-            head: NO_HEAD,
+            head: Head::NONE,
             decisions,
             levels,
         })
@@ -113,7 +97,7 @@ impl Decoder {
         ensures legal { (mb_wide mb_high : ℕ) (u : CodedUnit) (before : List CodedUnit)
             → HasAccepted mb_wide mb_high self.now u before → LendsLegal result }
     {
-        let Held { refs, picture } = self.store.held(self.head.pic, true);
+        let Held { refs, picture } = self.store.last(self.head.pic);
         Coded {
             head: &self.head,
             decisions: &self.decisions,

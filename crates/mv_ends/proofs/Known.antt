@@ -3,8 +3,10 @@ use Rattle.std.proofs.Common.{◌≡◌, ℕ, ◌+◌, ◌-◌, ◌≤◌, ◌<�
 use Rattle.std.proofs.Math.Seq.{take-add}
 use Rattle.std.proofs.lemmas.List.{take_all, length-drop, length-append}
 use Rattle.std.proofs.lemmas.Bool.{cases_lt}
-use Rattle.mv_ends.specs.Causes.{Fills, Counts, FailedWrite}
+use Rattle.mv_ends.specs.Causes.{Fills, FailedWrite}
+use Rattle.mv_ends.specs.Kept.{KeepsShelf, KeepsSink}
 use Rattle.mv_ends.specs.Moves.{Inputs, Opens, input_of}
+use Rattle.mv_ends.specs.Told.{ShelfTold, SinkTold}
 use Rattle.std.specs.Result.{OnErr}
 use Rattle.std.specs.Io.KnownBytes.{Appends, Keeps, Consumes, IsAtEnd}
 
@@ -75,22 +77,42 @@ append-Fills room (Some p) None c x h k = absurd h
 append-Fills room (Some p) (Some q) None x h k = absurd k
 append-Fills room (Some p) (Some q) (Some r) x h k = k
 
--- counts over two calls
-pub Counts-trans : (f g h room r : ℕ) (a b c : Option (List ℕ)) (x y : List ℕ) → Counts f g room a b → r ≡ room → Counts g h r b c → Appends a b x → Appends b c y → Counts f h room a c
-Counts-trans f g h room r a b c x y first same then grown more =
-    let at : Counts g h room b c = rw same at then in
+-- what two calls keep of a sink
+pub keeps_sink_trans : (a b c : SinkTold) (x y : List ℕ) → KeepsSink a b → KeepsSink b c → Appends a.written b.written x → Appends b.written c.written y → KeepsSink a c
+keeps_sink_trans a b c x y first then grown more =
+    let early : a.faults ≤ b.faults = first.later in
+    let late : b.faults ≤ c.faults = then.later in
     record {
-      later = omega (arith, first.later, at.later);
+      same_room = then.same_room ∙ first.same_room;
+      later = omega (arith, early, late);
       moved = λ rose.
           ⊎_elim
-          (λ (early : f < g). Fills-append room a b c y (first.moved early) more)
-          (λ (none : g ≤ f). append-Fills room a b c x grown (at.moved (omega arith)))
-          (cases_lt f g);
+          (λ (soon : a.faults < b.faults). Fills-append a.room a.written b.written c.written y (first.moved soon) more)
+          (λ (none : b.faults ≤ a.faults). append-Fills a.room a.written b.written c.written x grown
+          (subst (λ (room : ℕ). Fills room b.written c.written) first.same_room (then.moved (omega (arith, none, rose)))))
+          (cases_lt a.faults b.faults);
     }
 
--- a failure behind a call that went well
-pub failed_later : (f g h room r : ℕ) (a b c : Option (List ℕ)) (x : List ℕ) → Counts f g room a b → r ≡ room → FailedWrite g h r b c → Appends a b x → FailedWrite f h room a c
-failed_later f g h room r a b c x first same then grown = record {
-  rose = omega (arith, first.later, then.rose);
-  full = append-Fills room a b c x grown (rw same at then.full);
+-- a call that does nothing keeps all of a sink
+pub keeps_sink_refl : (a : SinkTold) → KeepsSink a a
+keeps_sink_refl a = record { same_room = refl; later = omega arith; moved = λ rose. absurd (omega (arith, rose)) }
+
+-- what a call keeps of a shelf that does nothing, and what two calls keep
+pub keeps_shelf_refl : (a : ShelfTold) → KeepsShelf a a
+keeps_shelf_refl a = record { inputs = refl; opens = λ name. omega arith; reads = λ name. omega arith }
+
+pub keeps_shelf_trans : (a b c : ShelfTold) → KeepsShelf a b → KeepsShelf b c → KeepsShelf a c
+keeps_shelf_trans a b c first then = record {
+  inputs = then.inputs ∙ first.inputs;
+  opens = λ name. omega (arith, first.opens name, then.opens name);
+  reads = λ name. omega (arith, first.reads name, then.reads name);
 }
+
+-- a failure behind a call that went well
+pub failed_later : (a b c : SinkTold) (x : List ℕ) → KeepsSink a b → FailedWrite b c → Appends a.written b.written x → FailedWrite a c
+failed_later a b c x first then grown =
+    let early : a.faults ≤ b.faults = first.later in
+    record {
+      rose = omega (arith, early, then.rose);
+      full = append-Fills a.room a.written b.written c.written x grown (subst (λ (room : ℕ). Fills room b.written c.written) first.same_room then.full);
+    }

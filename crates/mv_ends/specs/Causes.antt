@@ -1,5 +1,6 @@
 -- When a fault may be answered: its count rose in the call.
-use Rattle.std.specs.Prelude.{⊤, Option, None, Some, length, ℕ, ◌+◌, ◌-◌, ◌^◌, ◌≤◌, ◌<◌, min, List, Bool, IsTrue}
+use Rattle.std.specs.Prelude.{⊤, Option, None, Some, length, ℕ, ◌+◌, ◌-◌, ◌^◌, ◌≤◌, min, List, IsTrue}
+use Rattle.mv_ends.specs.Told.{ShelfTold, SinkTold}
 
 -- A count rose, or it stands at the last value that it can have.
 abbrev pub Rose : ℕ → ℕ → Type 0
@@ -9,10 +10,11 @@ Rose before now = min (before + 1) (2 ^ 64 - 1) ≤ now
 abbrev pub NeverFall : (List ℕ → ℕ) → (List ℕ → ℕ) → Type 0
 NeverFall before now = (name : List ℕ) → before name ≤ now name
 
--- Some name counts as selected, and the count of each such name rose.
-pub record RoseForSelected (selected : List ℕ → Bool) (before now : List ℕ → ℕ) : Type 0 where
-  pub some : (name : List ℕ) × IsTrue (selected name)
-  pub each : (name : List ℕ) → IsTrue (selected name) → Rose (before name) (now name)
+-- Why a read failed: some name counts as selected, and the count of each such name rose.
+pub record FailedRead (old new : ShelfTold) : Type 0 where
+  pub some : (name : List ℕ) × IsTrue (old.selected name)
+  pub each : (name : List ℕ) → IsTrue (old.selected name)
+      → Rose (old.read_faults name) (new.read_faults name)
 
 -- Known bytes grew to as many as a sink surely takes.
 abbrev pub Fills : ℕ → Option (List ℕ) → Option (List ℕ) → Type 0
@@ -20,12 +22,7 @@ Fills room None new = ⊤
 Fills room (Some before) None = ⊥
 Fills room (Some before) (Some now) = room ≤ length now
 
--- A count of faults didn't fall, and it moved only where all the bytes that are surely taken were taken.
-pub record Counts (before now room : ℕ) (old new : Option (List ℕ)) : Type 0 where
-  pub later : before ≤ now
-  pub moved : before < now → Fills room old new
-
 -- Why a write failed: its count rose, and all the bytes that are surely taken were taken.
-pub record FailedWrite (before now room : ℕ) (old new : Option (List ℕ)) : Type 0 where
-  pub rose : Rose before now
-  pub full : Fills room old new
+pub record FailedWrite (old new : SinkTold) : Type 0 where
+  pub rose : Rose old.faults new.faults
+  pub full : Fills old.room old.written new.written

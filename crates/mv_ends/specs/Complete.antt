@@ -4,6 +4,7 @@ use Rattle.std.specs.Io.KnownBytes.{Appends}
 use Rattle.mv_ends.specs.Causes.{Rose}
 use Rattle.mv_ends.specs.Ends.{Outcome, Ends}
 use Rattle.mv_ends.specs.Endings.{ending_of}
+use Rattle.mv_ends.specs.Told.{ShelfTold, SinkTold}
 use Rattle.mv_terms.specs.declared.status.Status.{Status}
 use Rattle.mv_terms.specs.declared.status.Status.TheVariants as status
 
@@ -13,6 +14,11 @@ pub record FaultCounts : Type 0 where
   pub opens : List ℕ → ℕ
   pub reads : List ℕ → ℕ
   pub writes : ℕ
+
+-- the counts that endpoints tell
+abbrev pub counts_of : ShelfTold → SinkTold → FaultCounts
+counts_of shelf out =
+    record { opens = shelf.open_faults; reads = shelf.read_faults; writes = out.faults }
 
 -- The status is that of a fault only where this fault's count rose in the call, of an input for some name.
 pub record FaultsAreCounted (before now : FaultCounts) (answered : Status) : Type 0 where

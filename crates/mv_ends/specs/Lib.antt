@@ -1,10 +1,12 @@
+pub mod Told
 pub mod Causes
 pub mod Moves
+pub mod Kept
 pub mod Sends
-pub mod Shelves
 pub mod Ends
 pub mod Endings
 pub mod Complete
+pub mod Commands
 pub mod Places
 pub mod Plan
 pub mod Clean

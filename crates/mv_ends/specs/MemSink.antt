@@ -1,7 +1,8 @@
 -- What a sink in memory holds.
-use Rattle.std.specs.Prelude.{◌≡◌, ℕ, List, []}
+use Rattle.std.specs.Prelude.{◌≡◌, ℕ, List, [], Some}
 use Rattle.mv_ends.specs.declared.failing.MemSink.{MemSink}
 use Rattle.mv_ends.specs.declared.failing.Plan.{Plan}
+use Rattle.mv_ends.specs.Told.{SinkTold}
 
 -- the bytes that it took, for how many it has room, how often it failed, and which calls are to fail
 abbrev pub taken_by : MemSink → List ℕ
@@ -15,6 +16,10 @@ faults_of s = s.faults
 
 abbrev pub plan_of : MemSink → Plan
 plan_of s = s.plan
+
+-- what it tells: as any write may fail, it surely takes none
+abbrev pub told_by : MemSink → SinkTold
+told_by s = record { written = Some (taken_by s); faults = faults_of s; room = 0 }
 
 -- A sink that took nothing yet.
 pub record IsNew (sink : MemSink) (room : ℕ) (fails : List ℕ) (most : ℕ) : Type 0 where

@@ -1,7 +1,7 @@
 //! Endpoints in memory that don't fail, as long as there is room.
 ghost use Rattle.std.specs.Prelude.{◌≡◌, ◌≤◌, [], Some, IfOk, false, List, ℕ, vec_len, vec_capacity};
 ghost use Rattle.std.specs.Option.{ForSome};
-ghost use Rattle.mv_ends.specs.Places.{inputs_of, place_of, left_of, is_place, IsFirst};
+ghost use Rattle.mv_ends.specs.Places.{inputs_of, IsFirst};
 
 use crate::inputs::{copy_front, index_of, input_at};
 use crate::{Failed, Shelf, Sink};
@@ -33,15 +33,9 @@ impl CleanShelf {
 }
 
 impl Shelf for CleanShelf {
-    ghost named = { λ s. Some (inputs_of s.inputs.items) };
+    ghost use Rattle.mv_ends.specs.Clean.{shelf_told};
 
-    ghost rest = { λ s. Some (left_of s.inputs.items s.selected s.at) };
-
-    ghost selected = { λ s name. is_place s.selected (place_of s.inputs.items name) };
-
-    ghost open_faults = { λ _ _. 0 };
-
-    ghost read_faults = { λ _ _. 0 };
+    ghost told = { shelf_told };
 
     fn select(&mut self, name: &str) -> Result<(), Failed> {
         self.selected = Some(index_of(&self.inputs, name));
@@ -94,11 +88,9 @@ impl CleanSink {
 }
 
 impl Sink for CleanSink {
-    ghost written = { λ s. Some s.taken.items };
+    ghost use Rattle.mv_ends.specs.Clean.{sink_told};
 
-    ghost faults = { λ s. s.faults };
-
-    ghost room = { λ s. s.room };
+    ghost told = { sink_told };
 
     fn write(&mut self, buf: &[u8]) -> Result<usize, Failed> {
         let free = self.room - self.taken.len();

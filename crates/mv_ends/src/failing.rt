@@ -1,7 +1,7 @@
 //! Endpoints in memory of which calls can be told to fail.
-ghost use Rattle.std.specs.Prelude.{◌≡◌, ◌+◌, ◌-◌, ◌≤◌, ◌<◌, ◌↔◌, ◌⊎◌, List, ℕ, [], Some, IfOk, IsTrue, IsErr, length, min, take, vec_len, vec_capacity, slice_index};
+ghost use Rattle.std.specs.Prelude.{◌≡◌, ◌+◌, ◌-◌, ◌≤◌, ◌<◌, ◌↔◌, ◌⊎◌, List, ℕ, [], Some, IfOk, IsTrue, IsErr, length, min, take, vec_len, vec_capacity};
 ghost use Rattle.std.specs.Option.{ForSome};
-ghost use Rattle.mv_ends.specs.Places.{inputs_of, place_of, left_of, is_place, IsFirst};
+ghost use Rattle.mv_ends.specs.Places.{inputs_of, IsFirst};
 
 use crate::inputs::{copy_front, index_of, input_at};
 use crate::{Failed, Shelf, Sink};
@@ -58,26 +58,21 @@ impl MemSink {
 impl Sink for MemSink {
     ghost use Rattle.std.specs.Prelude.{OnOk, OnErr};
     ghost use Rattle.std.specs.Io.KnownBytes.{WriteAppends};
-    ghost use Rattle.mv_ends.specs.Causes.{Counts, FailedWrite};
+    ghost use Rattle.mv_ends.specs.Causes.{FailedWrite};
+    ghost use Rattle.mv_ends.specs.Kept.{KeepsSink};
     ghost use Rattle.mv_ends.specs.Moves.{WritesSome};
-    ghost use Rattle.mv_ends.specs.MemSink.{taken_by, room_of, faults_of, plan_of};
+    ghost use Rattle.mv_ends.specs.MemSink.{taken_by, room_of, faults_of, plan_of, told_by};
     ghost use Rattle.mv_ends.specs.Plan.{FailsNext, IsPast};
 
-    ghost written = { λ s. Some s.taken.items };
-
-    ghost faults = { λ s. s.faults };
-
-    ghost room = { λ _. 0 };
+    ghost told = { told_by };
 
     fn write(&mut self, buf: &[u8]) -> Result<usize, Failed>
         requires { 0 < length buf.now }
         ensures bound { WritesSome result buf.now }
         ensures bytes { WriteAppends (Some (taken_by self.old)) (Some (taken_by self.new))
             result buf.now }
-        ensures count { Counts (faults_of self.old) (faults_of self.new)
-            0 (Some (taken_by self.old)) (Some (taken_by self.new)) }
-        ensures failed { OnErr result (FailedWrite (faults_of self.old) (faults_of self.new)
-            0 (Some (taken_by self.old)) (Some (taken_by self.new))) }
+        ensures failed { OnErr result (FailedWrite (told_by self.old) (told_by self.new)) }
+        ensures keeps { KeepsSink (told_by self.old) (told_by self.new) }
 
         // It fails exactly where the plan says so or it is full.
         ensures fails { IsErr result
@@ -147,21 +142,13 @@ impl Shelf for MemShelf {
     ghost use Rattle.std.specs.FinMap.{get};
     ghost use Rattle.std.specs.Io.{ReadsAtMost};
     ghost use Rattle.std.specs.Io.KnownBytes.{IsAtEnd, ReadConsumes};
-    ghost use Rattle.mv_ends.specs.Causes.{Rose, RoseForSelected};
+    ghost use Rattle.mv_ends.specs.Causes.{Rose, FailedRead};
     ghost use Rattle.mv_ends.specs.Moves.{Opens};
-    ghost use Rattle.mv_ends.specs.Shelves.{KeepsShelf};
+    ghost use Rattle.mv_ends.specs.Kept.{KeepsShelf};
     ghost use Rattle.mv_ends.specs.MemShelf.{told_by, inputs_in, left_in, selected_in, open_faults_in, read_faults_in, plan_of};
     ghost use Rattle.mv_ends.specs.Plan.{FailsNext, IsPast};
 
-    ghost named = { λ s. Some (inputs_of s.inputs.items) };
-
-    ghost rest = { λ s. Some (left_of s.inputs.items s.selected s.at) };
-
-    ghost selected = { λ s name. is_place s.selected (place_of s.inputs.items name) };
-
-    ghost open_faults = { λ s name. slice_index s.opens.items (place_of s.inputs.items name) };
-
-    ghost read_faults = { λ s name. slice_index s.reads.items (place_of s.inputs.items name) };
+    ghost told = { told_by };
 
     fn select(&mut self, name: &str) -> Result<(), Failed>
         ensures opened { OnOk result
@@ -170,7 +157,7 @@ impl Shelf for MemShelf {
         ensures failed { OnErr result
             (Rose (open_faults_in self.old name.now) (open_faults_in self.new name.now)) }
         ensures nothing { OnErr result (IsAtEnd (Some (left_in self.new))) }
-        ensures keeps { KeepsShelf told_by open_faults_in read_faults_in self.old self.new }
+        ensures keeps { KeepsShelf (told_by self.old) (told_by self.new) }
 
         // It fails exactly where the plan says so or no input has this name.
         ensures fails { IsErr result
@@ -203,10 +190,9 @@ impl Shelf for MemShelf {
             result buf.new }
         ensures unselected { ((name : List ℕ) → IsTrue (selected_in self.old name) → ⊥)
             → result ≡ Ok 0 }
-        ensures failed { OnErr result (RoseForSelected (selected_in self.old)
-            (read_faults_in self.old) (read_faults_in self.new)) }
+        ensures failed { OnErr result (FailedRead (told_by self.old) (told_by self.new)) }
         ensures chosen { selected_in self.new ≡ selected_in self.old }
-        ensures keeps { KeepsShelf told_by open_faults_in read_faults_in self.old self.new }
+        ensures keeps { KeepsShelf (told_by self.old) (told_by self.new) }
 
         // It fails exactly where the plan says so and a name counts as selected.
         ensures planned { OnErr result (FailsNext (plan_of self.old)) }

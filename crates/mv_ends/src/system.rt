@@ -21,9 +21,9 @@ impl<'a, R: Files> FileShelf<'a, R> {
     /// A shelf of which no file is open.
     pub fn new(rt: &'a R) -> Self
         ensures opens { (name : List ℕ)
-            → ⟦<FileShelf<'a, R> as Shelf>⟧.open_faults result name ≡ 0 }
+            → (⟦<FileShelf<'a, R> as Shelf>⟧.told result).open_faults name ≡ 0 }
         ensures reads { (name : List ℕ)
-            → ⟦<FileShelf<'a, R> as Shelf>⟧.read_faults result name ≡ 0 }
+            → (⟦<FileShelf<'a, R> as Shelf>⟧.told result).read_faults name ≡ 0 }
     {
         FileShelf {
             rt,
@@ -35,15 +35,13 @@ impl<'a, R: Files> FileShelf<'a, R> {
 }
 
 impl<'a, R: Files> Shelf for FileShelf<'a, R> {
-    ghost named = { λ _. None };
-
-    ghost rest = { λ _. None };
-
-    ghost selected = { λ _ _. true };
-
-    ghost open_faults = { λ s _. s.open_faults };
-
-    ghost read_faults = { λ s _. s.read_faults };
+    ghost told = { λ s. record {
+      named = None;
+      rest = None;
+      selected = λ name. true;
+      open_faults = λ name. s.open_faults;
+      read_faults = λ name. s.read_faults;
+    } };
 
     fn select(&mut self, name: &str) -> Result<(), Failed> {
         self.file = None;
@@ -83,18 +81,14 @@ pub struct StdSink<W: Write + Drop> {
 impl<W: Write + Drop> StdSink<W> {
     /// A sink that writes to this writer.
     pub fn new(to: W) -> Self
-        ensures { ⟦<StdSink<W> as Sink>⟧.faults result ≡ 0 }
+        ensures { (⟦<StdSink<W> as Sink>⟧.told result).faults ≡ 0 }
     {
         StdSink { to, faults: 0 }
     }
 }
 
 impl<W: Write + Drop> Sink for StdSink<W> {
-    ghost written = { λ _. None };
-
-    ghost faults = { λ s. s.faults };
-
-    ghost room = { λ _. 0 };
+    ghost told = { λ s. record { written = None; faults = s.faults; room = 0 } };
 
     fn write(&mut self, buf: &[u8]) -> Result<usize, Failed> {
         match self.to.write(buf) {
@@ -104,55 +98,5 @@ impl<W: Write + Drop> Sink for StdSink<W> {
                 Err(Failed)
             }
         }
-    }
-}
-
-#[cfg(test)]
-mod tests {
-    use super::*;
-    use crate::send;
-    use std::test::Fail;
-
-    #[test]
-    fn reads_a_file_whole_in_pieces_and_counts_what_fails(rt: HostRuntime) -> Result<(), Fail> {
-        let bytes = [0x00, 0x00, 0x01, 0xB3, 0x06, 0x00, 0x40, 0xFF];
-        fs::write(&rt, "stream.m2v", bytes)?;
-        let mut shelf = FileShelf::new(&rt);
-        let mut piece = [0; 3];
-        assert_eq!(rt; shelf.read(&mut piece), Ok(0));
-        shelf.select("stream.m2v")?;
-        let mut whole = Vec::new(rt.alloc());
-        for _ in 0..4 {
-            let count = shelf.read(&mut piece)?;
-            whole.extend_from_slice(&piece[..count])?;
-        }
-        assert_eq!(rt; whole.as_slice(), bytes.as_slice());
-        fs::remove_file(&rt, "stream.m2v")?;
-        assert_eq!(rt; shelf.select("stream.m2v"), Err(Failed));
-        assert_eq!(rt; shelf.read(&mut piece), Ok(0));
-        assert_eq!(rt; (shelf.open_faults, shelf.read_faults), (1, 0));
-        shelf.select(".")?;
-        assert_eq!(rt; shelf.read(&mut piece), Err(Failed));
-        assert_eq!(rt; (shelf.open_faults, shelf.read_faults), (1, 1));
-        Ok(())
-    }
-
-    #[test]
-    fn writes_a_file_and_counts_what_fails(rt: HostRuntime) -> Result<(), Fail> {
-        let mut sink = StdSink::new(fs::create(&rt, "frames.y4m")?);
-        send(&mut sink, b"FRAME\n")?;
-        send(&mut sink, b"samples")?;
-        assert_eq!(rt; sink.faults, 0);
-        let written = fs::read(&rt, "frames.y4m")?;
-        assert_eq!(rt; written.as_slice(), b"FRAME\nsamples".as_slice());
-        fs::remove_file(&rt, "frames.y4m")?;
-
-        // a slice that is full takes none of a piece
-        let mut room = [0; 2];
-        let mut sink = StdSink::new(room.as_mut_slice());
-        assert_eq!(rt; send(&mut sink, b"abc"), Err(Failed));
-        assert_eq!(rt; sink.faults, 1);
-        assert_eq!(rt; room, *b"ab");
-        Ok(())
     }
 }

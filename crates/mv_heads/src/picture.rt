@@ -15,7 +15,7 @@ use crate::picture_coding::{PictureCoding, read_picture_coding_extension};
 use crate::picture_header::{PictureHeader, read_picture_header};
 use mv_bits::start_codes::PICTURE;
 use mv_bits::{has_no_front, split_element};
-use mv_terms::{Context, Head, Matrices, Why, unsupported};
+use mv_terms::{Context, Head, Matrices, Structure, Why, unsupported};
 
 /// Reads a head that stands directly behind a sequence part with this context (H.262, 6.2.3).
 ///
@@ -149,11 +149,14 @@ fn head_from(
         temporal: header.temporal,
         f_code: coding.f_code,
         dc_precision: coding.dc_precision,
+        structure: Structure::Frame,
+        top_first: coding.top_first,
         frame_only: coding.frame_only,
         concealment: coding.concealment,
         non_linear: coding.non_linear,
         table_15: coding.table_15,
         alternate: coding.alternate,
+        second: false,
         mb_wide: context.mb_wide,
         mb_high: context.mb_high,
         matrices: in_force.matrices,

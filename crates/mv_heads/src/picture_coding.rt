@@ -15,6 +15,7 @@ use mv_terms::{PicType, Why, unsupported};
 pub struct PictureCoding {
     pub f_code: [[u8; 2]; 2],
     pub dc_precision: u8,
+    pub top_first: bool,
     pub frame_only: bool,
     pub concealment: bool,
     pub non_linear: bool,
@@ -38,7 +39,7 @@ pub(crate) fn read_picture_coding_extension(
     let backward_vertical = w.take(4);
     let dc_precision = w.take(2);
     let structure = w.take(2);
-    skip(w, 1); // top_field_first
+    let top_first = w.take(1);
     let frame_only = w.take(1);
     let concealment = w.take(1);
     let non_linear = w.take(1);
@@ -67,6 +68,7 @@ pub(crate) fn read_picture_coding_extension(
             [backward_horizontal as u8, backward_vertical as u8],
         ],
         dc_precision: dc_precision as u8,
+        top_first: top_first == 1,
         frame_only: frame_only == 1,
         concealment: concealment == 1,
         non_linear: non_linear == 1,

@@ -140,28 +140,29 @@ chroma_inside true true f d s mb_x mb_y y off step h e lt =
     let line : y / 2 ≡ 4 * mb_y + off / 2 = omega (arith, e) in
     rw line (inside_of f Cb (8 * mb_x) (4 * mb_y) (off / 2) 4 (4 * f.mb_high) step (Some (select_of d s (y % 2))) (vector_of d s (y % 2)) v.chroma_x v.chroma_y (omega arith) (omega (arith, lt)))
 
-luma_part : (f : Planes) (d : Decision) (s mb_x mb_y y off step : ℕ) → DirectionInside (has_direction d s) d.field_motion f d s mb_x mb_y → y ≡ 16 * mb_y + off → off + 7 * step < 16 → SourcesInside f d s Y (16 * mb_x) y step
+luma_part : (f : Planes) (d : Decision) (s mb_x mb_y x y off step : ℕ) → DirectionInside (has_direction d s) d.field_motion f d s mb_x mb_y → x ≡ 16 * mb_x → y ≡ 16 * mb_y + off → off + 7 * step < 16
+    → SourcesInside f d s (record { plane = Y; x = x; y = y; step = step })
 unfolding source_of
-luma_part f d s mb_x mb_y y off step h e lt = record {
+luma_part f d s mb_x mb_y x y off step h ex e lt = rw ex (record {
   even = luma_inside (has_direction d s) d.field_motion f d s mb_x mb_y y off step h e (omega (arith, lt));
   odd = luma_inside (has_direction d s) d.field_motion f d s mb_x mb_y (y + step) (off + step) step h (omega (arith, e)) (omega (arith, lt));
-}
+})
 
-chroma_part : (f : Planes) (d : Decision) (s mb_x mb_y : ℕ) → DirectionInside (has_direction d s) d.field_motion f d s mb_x mb_y → SourcesInside f d s Cb (8 * mb_x) (8 * mb_y) 1
+chroma_part : (f : Planes) (d : Decision) (s mb_x mb_y : ℕ) → DirectionInside (has_direction d s) d.field_motion f d s mb_x mb_y → SourcesInside f d s (record { plane = Cb; x = 8 * mb_x; y = 8 * mb_y; step = 1 })
 unfolding source_of
 chroma_part f d s mb_x mb_y h = record {
   even = chroma_inside (has_direction d s) d.field_motion f d s mb_x mb_y (8 * mb_y) 0 1 h (omega arith) (omega arith);
   odd = chroma_inside (has_direction d s) d.field_motion f d s mb_x mb_y (8 * mb_y + 1) 1 1 h refl (omega arith);
 }
 
-fits : (field_dct : Bool) → luma_top field_dct 1 + 7 * luma_step field_dct < 16
-fits true = omega arith
-fits false = omega arith
+fits : (field_dct : Bool) (half : ℕ) → half < 2 → luma_top field_dct half + 7 * luma_step field_dct < 16
+fits true half h = omega (arith, h)
+fits false half h = omega (arith, h)
 
 all_parts : (f : Planes) (d : Decision) (s mb_x mb_y : ℕ) → DirectionInside (has_direction d s) d.field_motion f d s mb_x mb_y → MacroblockInside f d s mb_x mb_y
 all_parts f d s mb_x mb_y h = record {
-  upper = luma_part f d s mb_x mb_y (16 * mb_y) 0 (luma_step d.field_dct) h (omega arith) (omega (arith, fits d.field_dct));
-  lower = luma_part f d s mb_x mb_y (16 * mb_y + luma_top d.field_dct 1) (luma_top d.field_dct 1) (luma_step d.field_dct) h refl (fits d.field_dct);
+  upper = luma_part f d s mb_x mb_y _ _ (luma_top d.field_dct 0) (luma_step d.field_dct) h (omega arith) refl (fits d.field_dct 0 (omega arith));
+  lower = luma_part f d s mb_x mb_y _ _ (luma_top d.field_dct 1) (luma_step d.field_dct) h (omega arith) refl (fits d.field_dct 1 (omega arith));
   chroma = chroma_part f d s mb_x mb_y h;
 }
 

@@ -3,10 +3,10 @@ use Rattle.std.proofs.Common.{◌≡◌, ◌∙◌, ◌<◌, ℕ, ◌+◌, ◌*�
 use Rattle.std.specs.Prelude.{slice_index}
 use Rattle.mv_terms.specs.declared.macroblock.Decision.{Decision}
 use Rattle.mv_planes.specs.declared.picture.Plane.{Plane}
+use Rattle.mv_planes.specs.declared.part.Part.{Part}
 use Rattle.mv_planes.specs.Planes.{Planes}
 use Rattle.mv_predict.specs.declared.kernel.Lines.{Lines}
-use Rattle.mv_predict.specs.declared.source.Source.{Source}
-use Rattle.mv_predict.specs.Prediction.{predicted_from, predicted_by, source_of}
+use Rattle.mv_predict.specs.Prediction.{Source, predicted_from, predicted_by, source_of}
 use Rattle.mv_predict.specs.Steps.{value_at, lines_at, AreInside, LinesHave, beside, beside_column, rows_apart}
 use Rattle.mv_predict.proofs.MovedLemmas.{value_of, value_beside, source_more, further}
 
@@ -36,35 +36,35 @@ either f d s y step lines r k j zero q u m e h g = even f d s y step lines r k j
 either f d s y step lines r k j (suc zero) q u m e h g = odd f d s y step lines r k j q u (omega (arith, m, e)) g
 either f d s y step lines r k j (suc (suc n)) q u m e h g = absurd (omega (arith, m))
 
-pub lines_are : (f : Planes) (p : Plane) (x y step : ℕ) (d : Decision) (s : ℕ) (lines : List (List ℕ))
-    → let a = lines_at f p x (source_of d s y) step in let b = lines_at f p x (source_of d s (y + step)) step in
-    AreInside f p x (source_of d s y) step → AreInside f p x (source_of d s (y + step)) step
+pub lines_are : (f : Planes) (part : Part) (d : Decision) (s : ℕ) (lines : List (List ℕ))
+    → let a = lines_at f part.plane part.x (source_of d s part.y) part.step in let b = lines_at f part.plane part.x (source_of d s (part.y + part.step)) part.step in
+    AreInside f part.plane part.x (source_of d s part.y) part.step → AreInside f part.plane part.x (source_of d s (part.y + part.step)) part.step
     → ((k c : ℕ) → k < 4 → c < 8 → slice_index (slice_index_or lines (2 * k) []) c ≡ value_at f.samples a a.at k c)
     → ((k c : ℕ) → k < 4 → c < 8 → slice_index (slice_index_or lines (2 * k) []) (8 + c) ≡ value_at f.samples a (a.at + a.apart) k c)
     → ((k c : ℕ) → k < 4 → c < 8 → slice_index (slice_index_or lines (2 * k + 1) []) c ≡ value_at f.samples b b.at k c)
     → ((k c : ℕ) → k < 4 → c < 8 → slice_index (slice_index_or lines (2 * k + 1) []) (8 + c) ≡ value_at f.samples b (b.at + b.apart) k c)
-    → LinesHave (predicted_by d s f) p x y step lines
-lines_are f p x y step d s lines i o ef es of os = record {
-  first = λ r c lr lc. either f d s y step lines r (r / 2) c (r % 2) p (x + c) refl refl
-      (ef (r / 2) c (omega (arith, lr)) lc ∙ value_of f p x (source_of d s y) step (r / 2) c i)
-      (of (r / 2) c (omega (arith, lr)) lc ∙ value_of f p x (source_of d s (y + step)) step (r / 2) c o);
-  second = λ r c lr lc. either f d s y step lines r (r / 2) (8 + c) (r % 2) (beside p) (x + beside_column p + c) refl refl
-      (es (r / 2) c (omega (arith, lr)) lc ∙ value_beside f p x (source_of d s y) step (r / 2) c i)
-      (os (r / 2) c (omega (arith, lr)) lc ∙ value_beside f p x (source_of d s (y + step)) step (r / 2) c o);
+    → LinesHave (predicted_by d s f) part lines
+lines_are f part d s lines i o ef es of os = record {
+  first = λ r c lr lc. either f d s part.y part.step lines r (r / 2) c (r % 2) part.plane (part.x + c) refl refl
+      (ef (r / 2) c (omega (arith, lr)) lc ∙ value_of f part.plane part.x (source_of d s part.y) part.step (r / 2) c i)
+      (of (r / 2) c (omega (arith, lr)) lc ∙ value_of f part.plane part.x (source_of d s (part.y + part.step)) part.step (r / 2) c o);
+  second = λ r c lr lc. either f d s part.y part.step lines r (r / 2) (8 + c) (r % 2) (beside part.plane) (part.x + beside_column part.plane + c) refl refl
+      (es (r / 2) c (omega (arith, lr)) lc ∙ value_beside f part.plane part.x (source_of d s part.y) part.step (r / 2) c i)
+      (os (r / 2) c (omega (arith, lr)) lc ∙ value_beside f part.plane part.x (source_of d s (part.y + part.step)) part.step (r / 2) c o);
 }
 
-pub lines_made : (f : Planes) (p : Plane) (x y step : ℕ) (d : Decision) (s : ℕ) (lines : List (List ℕ)) (samples : List ℕ) (u w : Source) (a b : Lines)
-    → samples ≡ f.samples → u ≡ source_of d s y → w ≡ source_of d s (y + step) → a ≡ lines_at f p x u step → b ≡ lines_at f p x w step
-    → AreInside f p x (source_of d s y) step → AreInside f p x (source_of d s (y + step)) step
+pub lines_made : (f : Planes) (part : Part) (d : Decision) (s : ℕ) (lines : List (List ℕ)) (samples : List ℕ) (u w : Source) (a b : Lines)
+    → samples ≡ f.samples → u ≡ source_of d s part.y → w ≡ source_of d s (part.y + part.step) → a ≡ lines_at f part.plane part.x u part.step → b ≡ lines_at f part.plane part.x w part.step
+    → AreInside f part.plane part.x (source_of d s part.y) part.step → AreInside f part.plane part.x (source_of d s (part.y + part.step)) part.step
     → ((k c : ℕ) → k < 4 → c < 8 → slice_index (slice_index_or lines (2 * k) []) c ≡ value_at samples a a.at k c)
     → ((k c : ℕ) → k < 4 → c < 8 → slice_index (slice_index_or lines (2 * k) []) (8 + c) ≡ value_at samples a (a.at + a.apart) k c)
     → ((k c : ℕ) → k < 4 → c < 8 → slice_index (slice_index_or lines (2 * k + 1) []) c ≡ value_at samples b b.at k c)
     → ((k c : ℕ) → k < 4 → c < 8 → slice_index (slice_index_or lines (2 * k + 1) []) (8 + c) ≡ value_at samples b (b.at + b.apart) k c)
-    → LinesHave (predicted_by d s f) p x y step lines
-lines_made f p x y step d s lines samples u w a b same su sw ea eb i o ef es of os =
-    let ia : a ≡ lines_at f p x (source_of d s y) step = ea ∙ ap (λ (t : Source). lines_at f p x t step) su in
-    let ib : b ≡ lines_at f p x (source_of d s (y + step)) step = eb ∙ ap (λ (t : Source). lines_at f p x t step) sw in
-    lines_are f p x y step d s lines i o
+    → LinesHave (predicted_by d s f) part lines
+lines_made f part d s lines samples u w a b same su sw ea eb i o ef es of os =
+    let ia : a ≡ lines_at f part.plane part.x (source_of d s part.y) part.step = ea ∙ ap (λ (t : Source). lines_at f part.plane part.x t part.step) su in
+    let ib : b ≡ lines_at f part.plane part.x (source_of d s (part.y + part.step)) part.step = eb ∙ ap (λ (t : Source). lines_at f part.plane part.x t part.step) sw in
+    lines_are f part d s lines i o
     (λ k c lk lc. ef k c lk lc ∙ ap (λ (l : List ℕ). value_at l a a.at k c) same ∙ ap (λ (t : Lines). value_at f.samples t t.at k c) ia)
     (λ k c lk lc. es k c lk lc ∙ ap (λ (l : List ℕ). value_at l a (a.at + a.apart) k c) same ∙ ap (λ (t : Lines). value_at f.samples t (t.at + t.apart) k c) ia)
     (λ k c lk lc. of k c lk lc ∙ ap (λ (l : List ℕ). value_at l b b.at k c) same ∙ ap (λ (t : Lines). value_at f.samples t t.at k c) ib)

@@ -11,8 +11,7 @@ use Rattle.mv_vectors.specs.Inside.{whole_samples}
 use Rattle.mv_terms.specs.declared.macroblock.Decision.{Decision}
 use Rattle.mv_terms.specs.declared.macroblock.Vector.{Vector}
 use Rattle.mv_predict.specs.declared.kernel.Lines.{Lines}
-use Rattle.mv_predict.specs.declared.source.Source.{Source}
-use Rattle.mv_predict.specs.Prediction.{moved, natural, line_in, vector_in, half_way, sample_in, predicted_from, has_direction, source_by, source_of}
+use Rattle.mv_predict.specs.Prediction.{Source, moved, natural, line_in, vector_in, half_way, sample_in, predicted_from, has_direction, source_by, source_of}
 use Rattle.mv_predict.specs.Steps.{IsReadable, value_at, quarter, lines_at, half_left, distance, AreInside, beside, beside_column, apart_in, rows_apart}
 
 pub natural_of : (z : ℤ) → pos 0 ≤ℤ z → pos (natural z) ≡ z

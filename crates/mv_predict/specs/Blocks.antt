@@ -5,7 +5,7 @@ use Rattle.mv_terms.specs.declared.macroblock.Decision.{Decision}
 use Rattle.mv_terms.specs.Block.{entry}
 use Rattle.mv_planes.specs.declared.picture.Plane.{Plane}
 use Rattle.mv_planes.specs.Planes.{Planes}
-use Rattle.mv_planes.specs.Lent.{column, line}
+use Rattle.mv_planes.specs.Parts.{column, line}
 use Rattle.mv_planes.specs.Layout.{part_at}
 use Rattle.mv_planes.specs.References.{References}
 use Rattle.mv_predict.specs.Prediction.{predicted_at}

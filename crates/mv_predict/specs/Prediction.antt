@@ -10,10 +10,13 @@ use Rattle.mv_planes.specs.declared.picture.Plane.TheVariants.{Y, Cb, Cr}
 use Rattle.mv_planes.specs.Planes.{Planes, sample_of, field_line}
 use Rattle.mv_planes.specs.References.{References}
 use Rattle.mv_vectors.specs.Inside.{chroma, whole_samples, half_sample}
-use Rattle.mv_predict.specs.declared.source.Source.{Source}
 
 -- A source, in direction s, of a place: the lines that its prediction is taken from, which are those of the frame or of
 -- one field (the bottom one where that is true), the luma vector, and the place's own line among these lines.
+pub record Source : Type 0 where
+  pub field : Option Bool
+  pub vector : Vector
+  pub line : ℕ
 
 -- The line of the picture that is this one of the frame or of the field (H.262, 7.6.2.1 and 6.1.1.3).
 abbrev pub line_in : Option Bool → ℕ → ℕ

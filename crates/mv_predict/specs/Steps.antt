@@ -6,11 +6,17 @@ use Rattle.mv_terms.specs.Block.{entry}
 use Rattle.mv_planes.specs.declared.picture.Plane.{Plane}
 use Rattle.mv_planes.specs.declared.picture.Plane.TheVariants.{Y, Cb, Cr}
 use Rattle.mv_planes.specs.Planes.{Planes, width_of, height_of, place_of}
-use Rattle.mv_planes.specs.Layout.{part_at, luma_top, luma_step}
+use Rattle.mv_planes.specs.declared.part.Part.{Part}
+use Rattle.mv_planes.specs.Parts.{column, line}
+use Rattle.mv_planes.specs.Layout.{part_at}
 use Rattle.mv_vectors.specs.Inside.{whole_samples, half_sample}
 use Rattle.mv_predict.specs.declared.kernel.Lines.{Lines}
-use Rattle.mv_predict.specs.declared.source.Source.{Source}
-use Rattle.mv_predict.specs.Prediction.{moved, line_in, vector_in, source_of}
+use Rattle.mv_predict.specs.declared.source.Source.{Source as SourceAt}
+use Rattle.mv_predict.specs.Prediction.{Source, moved, line_in, vector_in, source_of}
+
+-- the source that the code's struct is
+abbrev pub source_given : SourceAt → Source
+source_given s = record { field = s.field; vector = s.vector; line = s.line }
 
 -- a quarter of four samples: the one at a place, that `right` of it, that `down` of it, and that right of that
 abbrev pub quarter : List ℕ → ℕ → ℕ → ℕ → ℕ
@@ -79,33 +85,37 @@ pub record AreInside (f : Planes) (p : Plane) (x : ℕ) (s : Source) (step : ℕ
   pub bottom : line_in s.field (moved s.line (vector_in p s.vector).y + 3 * rows_apart s.field step
       + half_left (vector_in p s.vector).y) < height_of f p
 
--- the lines that direction s takes for eight rows, so many lines of the frame apart, lie in the picture
-pub record SourcesInside (f : Planes) (d : Decision) (s : ℕ) (p : Plane) (x y step : ℕ) : Type 0
-  where
-    pub even : AreInside f p x (source_of d s y) step
-    pub odd : AreInside f p x (source_of d s (y + step)) step
+-- the lines that direction s takes for the eight rows of a part lie in the picture
+pub record SourcesInside (f : Planes) (d : Decision) (s : ℕ) (part : Part) : Type 0 where
+  pub even : AreInside f part.plane part.x (source_of d s part.y) part.step
+  pub odd : AreInside f part.plane part.x (source_of d s (part.y + part.step)) part.step
 
--- so do all that it takes for a macroblock
+-- so do all that it takes for a macroblock, by the first block of each pair
 pub record MacroblockInside (f : Planes) (d : Decision) (s mb_x mb_y : ℕ) : Type 0 where
-  pub upper : SourcesInside f d s Y (16 * mb_x) (16 * mb_y) (luma_step d.field_dct)
-  pub lower : SourcesInside f d s Y (16 * mb_x) (16 * mb_y + luma_top d.field_dct 1)
-      (luma_step d.field_dct)
-  pub chroma : SourcesInside f d s Cb (8 * mb_x) (8 * mb_y) 1
+  pub upper : SourcesInside f d s (part_at d.field_dct Y mb_x mb_y 0)
+  pub lower : SourcesInside f d s (part_at d.field_dct Y mb_x mb_y 2)
+  pub chroma : SourcesInside f d s (part_at d.field_dct Cb mb_x mb_y 4)
 
--- eight lines have these values, the rows so many lines of the frame apart
-pub record LinesHave (value : Plane → ℕ → ℕ → ℕ) (p : Plane) (x y step : ℕ) (lines : List (List ℕ))
-    : Type 0 where
-  pub first : (r c : ℕ) → r < 8 → c < 8
-      → slice_index (slice_index_or lines r []) c ≡ value p (x + c) (y + r * step)
-  pub second : (r c : ℕ) → r < 8 → c < 8 → slice_index (slice_index_or lines r []) (8 + c)
-      ≡ value (beside p) (x + beside_column p + c) (y + r * step)
+-- the part of the second eight samples of the lines of a part
+abbrev pub beside_part : Part → Part
+beside_part part =
+    record part { plane = beside part.plane; x = part.x + beside_column part.plane }
 
--- a part of eight by eight samples has these values
-abbrev pub PartHas : (Plane → ℕ → ℕ → ℕ) → Plane → ℕ → ℕ → ℕ → List ℤ → Type 0
-PartHas value p x y step samples = (row col : ℕ) → row < 8 → col < 8
-    → entry samples row col ≡ pos (value p (x + col) (y + row * step))
+-- eight lines have these values in a part, and beside it
+pub record LinesHave (value : Plane → ℕ → ℕ → ℕ) (part : Part) (lines : List (List ℕ)) : Type 0
+  where
+    pub first : (r c : ℕ) → r < 8 → c < 8 → slice_index (slice_index_or lines r []) c
+        ≡ value part.plane (column part c) (line part r)
+    pub second : (r c : ℕ) → r < 8 → c < 8 → slice_index (slice_index_or lines r []) (8 + c)
+        ≡ value (beside part.plane) (column (beside_part part) c) (line part r)
 
--- block b of a plane has these values
+-- a block has these values in a part
+abbrev pub PartHas : (Plane → ℕ → ℕ → ℕ) → Part → List ℤ → Type 0
+PartHas value part samples = (row col : ℕ) → row < 8 → col < 8
+    → entry samples row col ≡ pos (value part.plane (column part col) (line part row))
+
+-- so has block b of a plane
 abbrev pub BlockHas : (Plane → ℕ → ℕ → ℕ) → Bool → ℕ → ℕ → Plane → ℕ → List ℤ → Type 0
 BlockHas value field_dct mb_x mb_y p b samples =
-    let part = part_at field_dct p mb_x mb_y b in PartHas value p part.x part.y part.step samples
+    let part = part_at field_dct p mb_x mb_y b in (row col : ℕ) → row < 8 → col < 8
+    → entry samples row col ≡ pos (value p (column part col) (line part row))

@@ -1,14 +1,14 @@
 //! The six blocks of a macroblock.
-ghost use Rattle.std.specs.Prelude.{◌≡◌, ℕ, ◌+◌, ◌*◌, ◌^◌, ◌<◌, ◌≤◌, [], slice_index_or, pos, true};
+ghost use Rattle.std.specs.Prelude.{◌≡◌, ℕ, ◌^◌, ◌<◌, [], slice_index_or, pos, true};
 ghost use Rattle.mv_terms.specs.Block.{entry};
 ghost use Rattle.mv_planes.specs.declared.picture.Plane.{Plane as PlaneOf};
-ghost use Rattle.mv_planes.specs.Layout.{IsBlockOf, luma_top, luma_step};
+ghost use Rattle.mv_planes.specs.Layout.{IsBlockOf};
 ghost use Rattle.mv_predict.specs.Prediction.{predicted_with, goes_forward, goes_backward};
 ghost use Rattle.mv_planes.specs.References.{references_lent};
 ghost use Rattle.mv_predict.specs.Steps.{BlockHas, MacroblockInside};
 
 use crate::lines::predict_pair;
-use mv_planes::{Plane, RefPair};
+use mv_planes::{RefPair, part_at};
 use mv_terms::{Decision, Head, PicType};
 
 /// Predicts the blocks of a macroblock that isn't intra, by these directions.
@@ -28,44 +28,12 @@ pub(crate) fn predict_blocks(
         (predicted_with forward backward d.now (references_lent refs.now))
         d.now.field_dct mb_x mb_y p b (slice_index_or out.new b []) }
 {
-    let step = luma_step(d.field_dct);
-    let lower = 16 * mb_y + second_top(d.field_dct);
-    predict_pair(
-        refs,
-        forward,
-        backward,
-        Plane::Y,
-        16 * mb_x,
-        16 * mb_y,
-        step,
-        d,
-        0,
-        out,
-    );
-    predict_pair(
-        refs,
-        forward,
-        backward,
-        Plane::Y,
-        16 * mb_x,
-        lower,
-        step,
-        d,
-        2,
-        out,
-    );
-    predict_pair(
-        refs,
-        forward,
-        backward,
-        Plane::Cb,
-        8 * mb_x,
-        8 * mb_y,
-        1,
-        d,
-        4,
-        out,
-    );
+    let upper = part_at(d.field_dct, mb_x, mb_y, 0);
+    predict_pair(refs, forward, backward, upper, d, 0, out);
+    let lower = part_at(d.field_dct, mb_x, mb_y, 2);
+    predict_pair(refs, forward, backward, lower, d, 2, out);
+    let chroma = part_at(d.field_dct, mb_x, mb_y, 4);
+    predict_pair(refs, forward, backward, chroma, d, 4, out);
 }
 
 /// Leaves zeros in all blocks.
@@ -86,19 +54,4 @@ pub(crate) fn goes_backward(head: &Head, d: &Decision) -> bool
     ensures { result ≡ goes_backward head.now d.now }
 {
     d.backward && matches!(head.pic, PicType::B)
-}
-
-fn luma_step(field_dct: bool) -> usize
-    ensures value { result ≡ luma_step field_dct }
-    ensures small { result ≤ 2 }
-{
-    if field_dct { 2 } else { 1 }
-}
-
-// The first line of the lower luma blocks.
-fn second_top(field_dct: bool) -> usize
-    ensures value { result ≡ luma_top field_dct 1 }
-    ensures small { result ≤ 8 }
-{
-    if field_dct { 1 } else { 8 }
 }

@@ -63,6 +63,3 @@ pub fn predict(
         );
     }
 }
-
-#[cfg(test)]
-mod tests;

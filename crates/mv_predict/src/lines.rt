@@ -3,42 +3,39 @@
 ghost use Rattle.std.specs.Prelude.{◌≡◌, ℕ, ◌+◌, ◌*◌, ◌/◌, ◌^◌, ◌<◌, ◌≤◌, length, [], slice_index, slice_index_or, true};
 ghost use Rattle.mv_predict.specs.Prediction.{predicted_by, predicted_with};
 ghost use Rattle.mv_planes.specs.References.{references_lent};
-ghost use Rattle.mv_predict.specs.Steps.{value_at, IsReadable, LinesHave, SourcesInside, PartHas, beside, beside_column};
+ghost use Rattle.mv_predict.specs.Steps.{value_at, IsReadable, LinesHave, SourcesInside, PartHas, beside_part};
 
 use crate::kernel::{Lines, four_lines, means, put_half};
 use crate::source::{lines_at, odd_lines, source_of};
-use mv_planes::{Picture, Plane, RefPair};
+use mv_planes::{Part, Picture, RefPair};
 use mv_terms::Decision;
 
-/// Predicts two blocks, the first of them b, whose first sample is at column x of line y and whose rows lie a step apart.
+/// Predicts two blocks, the first of them b, which stands in this part; the second one stands beside it.
 pub(crate) fn predict_pair(
     refs: &RefPair<'_>,
     forward: bool,
     backward: bool,
-    plane: Plane,
-    x: usize,
-    y: usize,
-    step: usize,
+    part: Part,
     d: &Decision,
     b: usize,
     out: &mut [[i16; 64]; 6],
 )
-    requires step { step ≤ 2 }
-    requires small { (x < 2 ^ 21) × (y < 2 ^ 21) }
+    requires step { part.step ≤ 2 }
+    requires small { (part.x < 2 ^ 21) × (part.y < 2 ^ 21) }
     requires b { b < 5 }
     requires forward { forward ≡ true
-        → SourcesInside refs.now.forward.now d.now 0 plane x y step }
+        → SourcesInside refs.now.forward.now d.now 0 part }
     requires backward { backward ≡ true
-        → SourcesInside refs.now.backward.now d.now 1 plane x y step }
+        → SourcesInside refs.now.backward.now d.now 1 part }
     ensures first { PartHas (predicted_with forward backward d.now (references_lent refs.now))
-        plane x y step (slice_index_or out.new b []) }
+        part (slice_index_or out.new b []) }
     ensures second { PartHas (predicted_with forward backward d.now (references_lent refs.now))
-        (beside plane) (x + beside_column plane) y step (slice_index_or out.new (b + 1) []) }
+        (beside_part part) (slice_index_or out.new (b + 1) []) }
     ensures others { (i : ℕ) → i < 6 → (i ≡ b → ⊥) → (i ≡ b + 1 → ⊥)
         → slice_index_or out.new i [] ≡ slice_index_or out.old i [] }
 {
     let mut lines = [[0; 16]; 8];
-    predict_both(refs, forward, backward, plane, x, y, step, d, &mut lines);
+    predict_both(refs, forward, backward, part, d, &mut lines);
     put_half(&lines, 0, &mut out[b]);
     put_half(&lines, 8, &mut out[b + 1]);
 }
@@ -48,55 +45,43 @@ fn predict_both(
     refs: &RefPair<'_>,
     forward: bool,
     backward: bool,
-    plane: Plane,
-    x: usize,
-    y: usize,
-    step: usize,
+    part: Part,
     d: &Decision,
     out: &mut [[u8; 16]; 8],
 )
-    requires step { step ≤ 2 }
-    requires small { (x < 2 ^ 21) × (y < 2 ^ 21) }
+    requires step { part.step ≤ 2 }
+    requires small { (part.x < 2 ^ 21) × (part.y < 2 ^ 21) }
     requires forward { forward ≡ true
-        → SourcesInside refs.now.forward.now d.now 0 plane x y step }
+        → SourcesInside refs.now.forward.now d.now 0 part }
     requires backward { backward ≡ true
-        → SourcesInside refs.now.backward.now d.now 1 plane x y step }
+        → SourcesInside refs.now.backward.now d.now 1 part }
     ensures { LinesHave (predicted_with forward backward d.now (references_lent refs.now))
-        plane x y step out.new }
+        part out.new }
 {
     if forward {
-        predict_lines(refs.forward, plane, x, y, step, d, 0, out);
+        predict_lines(refs.forward, part, d, 0, out);
         if backward {
             let mut other = [[0; 16]; 8];
-            predict_lines(refs.backward, plane, x, y, step, d, 1, &mut other);
+            predict_lines(refs.backward, part, d, 1, &mut other);
             mean_lines(out, &other);
         }
     } else if backward {
-        predict_lines(refs.backward, plane, x, y, step, d, 1, out);
+        predict_lines(refs.backward, part, d, 1, out);
     } else {
         *out = [[0; 16]; 8];
     }
 }
 
 // The lines by direction s.
-fn predict_lines(
-    pic: &Picture,
-    plane: Plane,
-    x: usize,
-    y: usize,
-    step: usize,
-    d: &Decision,
-    s: usize,
-    out: &mut [[u8; 16]; 8],
-)
-    requires step { step ≤ 2 }
-    requires small { (x < 2 ^ 21) × (y < 2 ^ 21) }
+fn predict_lines(pic: &Picture, part: Part, d: &Decision, s: usize, out: &mut [[u8; 16]; 8])
+    requires step { part.step ≤ 2 }
+    requires small { (part.x < 2 ^ 21) × (part.y < 2 ^ 21) }
     requires s { s < 2 }
-    requires inside { SourcesInside pic.now d.now s plane x y step }
-    ensures { LinesHave (predicted_by d.now s pic.now) plane x y step out.new }
+    requires inside { SourcesInside pic.now d.now s part }
+    ensures { LinesHave (predicted_by d.now s pic.now) part out.new }
 {
-    let even = lines_at(pic, plane, x, source_of(d, s, y), step);
-    let odd = odd_lines(pic, plane, x, y, step, d, s, &even);
+    let even = lines_at(pic, part.plane, part.x, source_of(d, s, part.y), part.step);
+    let odd = odd_lines(pic, part, d, s, &even);
     rows(pic.samples(), &even, &odd, out);
 }
 

@@ -1,13 +1,12 @@
 //! Where in a picture the samples lie that a block is predicted from.
 ghost use Rattle.std.specs.Prelude.{◌≡◌, ℕ, ◌+◌, ◌*◌, ◌/◌, ◌%◌, ◌^◌, ◌<◌, ◌≤◌, length, pos, unsigned_abs, ◌+ℤ◌, ◌≤ℤ◌, ◌&&◌};
-ghost use Rattle.mv_planes.specs.Planes.{place_of, IsInside, width_of};
 ghost use Rattle.mv_vectors.specs.Inside.{whole_samples, half_sample};
 ghost use Rattle.mv_predict.specs.Steps.{IsReadable};
 ghost use Rattle.mv_predict.specs.Prediction.{moved, line_in, vector_in, has_direction, source_of};
-ghost use Rattle.mv_predict.specs.Steps.{lines_at, apart_in, distance, half_left, AreInside, SourcesInside};
+ghost use Rattle.mv_predict.specs.Steps.{source_given, lines_at, apart_in, distance, half_left, AreInside, SourcesInside};
 
 use crate::kernel::Lines;
-use mv_planes::{Picture, Plane};
+use mv_planes::{Part, Picture, Plane};
 use mv_terms::{Decision, Vector};
 use mv_vectors::chroma;
 
@@ -26,7 +25,7 @@ pub(crate) struct Source {
 #[tactic(auto, unfolding(crate::specs::Prediction::source_of))]
 pub(crate) fn source_of(d: &Decision, s: usize, y: usize) -> Source
     requires { s < 2 }
-    ensures value { result ≡ source_of d.now s y }
+    ensures value { source_given result ≡ source_of d.now s y }
     ensures line { result.line ≤ y }
 {
     let has_direction = if s == 0 { d.forward } else { d.backward };
@@ -55,8 +54,8 @@ pub(crate) fn source_of(d: &Decision, s: usize, y: usize) -> Source
 pub(crate) fn lines_at(pic: &Picture, plane: Plane, x: usize, source: Source, step: usize) -> Lines
     requires step { step ≤ 2 }
     requires small { (x < 2 ^ 22) × (source.line < 2 ^ 22) }
-    requires inside { AreInside pic.now plane x source step }
-    ensures value { result ≡ lines_at pic.now plane x source step }
+    requires inside { AreInside pic.now plane x (source_given source) step }
+    ensures value { result ≡ lines_at pic.now plane x (source_given source) step }
     ensures readable { IsReadable pic.now.samples result }
 {
     // for the proof: the picture is whole
@@ -68,14 +67,14 @@ pub(crate) fn lines_at(pic: &Picture, plane: Plane, x: usize, source: Source, st
 fn places_at(pic: &Picture, plane: Plane, x: usize, source: Source, step: usize) -> Lines
     requires step { step ≤ 2 }
     requires small { (x < 2 ^ 22) × (source.line < 2 ^ 22) }
-    requires inside { AreInside pic.now plane x source step }
-    ensures { result ≡ lines_at pic.now plane x source step }
+    requires inside { AreInside pic.now plane x (source_given source) step }
+    ensures { result ≡ lines_at pic.now plane x (source_given source) step }
 {
     let v = vector_in(plane, source.vector);
     let across = moved(x, v.x);
     let down = moved(source.line, v.y);
     Lines {
-        at: place(pic, plane, across, line_in(source.field, down)),
+        at: pic.place(plane, across, line_in(source.field, down)),
         apart: apart_in(pic, plane),
         stride: 2 * step * pic.width(plane),
         right: half_left(v.x),
@@ -84,53 +83,40 @@ fn places_at(pic: &Picture, plane: Plane, x: usize, source: Source, step: usize)
 }
 
 /// The lines of the rows between those of `even`, a step further on.
-pub(crate) fn odd_lines(
-    pic: &Picture,
-    plane: Plane,
-    x: usize,
-    y: usize,
-    step: usize,
-    d: &Decision,
-    s: usize,
-    even: &Lines,
-) -> Lines
-    requires step { step ≤ 2 }
-    requires small { (x < 2 ^ 21) × (y < 2 ^ 21) }
+pub(crate) fn odd_lines(pic: &Picture, part: Part, d: &Decision, s: usize, even: &Lines) -> Lines
+    requires step { part.step ≤ 2 }
+    requires small { (part.x < 2 ^ 21) × (part.y < 2 ^ 21) }
     requires s { s < 2 }
-    requires inside { SourcesInside pic.now d.now s plane x y step }
-    requires even { even.now ≡ lines_at pic.now plane x (source_of d.now s y) step }
+    requires inside { SourcesInside pic.now d.now s part }
+    requires even { even.now
+        ≡ lines_at pic.now part.plane part.x (source_of d.now s part.y) part.step }
     requires readable { IsReadable pic.now.samples even.now }
-    ensures value { result ≡ lines_at pic.now plane x (source_of d.now s (y + step)) step }
+    ensures value { result
+        ≡ lines_at pic.now part.plane part.x (source_of d.now s (part.y + part.step)) part.step }
     ensures readable { IsReadable pic.now.samples result }
 {
     // for the proof: the picture is whole
     let _wide = pic.mb_wide();
-    odd_places(pic, plane, x, y, step, d, s, even)
+    odd_places(pic, part, d, s, even)
 }
 
 // The same lines. By frame prediction they differ from the even ones in their place alone.
-fn odd_places(
-    pic: &Picture,
-    plane: Plane,
-    x: usize,
-    y: usize,
-    step: usize,
-    d: &Decision,
-    s: usize,
-    even: &Lines,
-) -> Lines
-    requires step { step ≤ 2 }
-    requires small { (x < 2 ^ 21) × (y < 2 ^ 21) }
+fn odd_places(pic: &Picture, part: Part, d: &Decision, s: usize, even: &Lines) -> Lines
+    requires step { part.step ≤ 2 }
+    requires small { (part.x < 2 ^ 21) × (part.y < 2 ^ 21) }
     requires s { s < 2 }
-    requires inside { SourcesInside pic.now d.now s plane x y step }
-    requires even { even.now ≡ lines_at pic.now plane x (source_of d.now s y) step }
+    requires inside { SourcesInside pic.now d.now s part }
+    requires even { even.now
+        ≡ lines_at pic.now part.plane part.x (source_of d.now s part.y) part.step }
     requires readable { IsReadable pic.now.samples even.now }
-    ensures { result ≡ lines_at pic.now plane x (source_of d.now s (y + step)) step }
+    ensures { result
+        ≡ lines_at pic.now part.plane part.x (source_of d.now s (part.y + part.step)) part.step }
 {
     // for the proof: the list is short
     let _samples = pic.samples();
     if has_fields(d, s) {
-        places_at(pic, plane, x, source_of(d, s, y + step), step)
+        let source = source_of(d, s, part.y + part.step);
+        places_at(pic, part.plane, part.x, source, part.step)
     } else {
         Lines {
             at: even.at + even.stride / 2,
@@ -165,22 +151,6 @@ fn line_in(field: Option<bool>, y: usize) -> usize
         None => y,
         Some(bottom) => 2 * y + usize::from(bottom),
     }
-}
-
-// Where the sample at column x of line y stands in the list.
-fn place(pic: &Picture, plane: Plane, x: usize, y: usize) -> usize
-    requires { IsInside pic.now plane x y }
-    ensures { result ≡ place_of pic.now plane x y }
-{
-    let macroblocks = usize::from(pic.mb_wide()) * usize::from(pic.mb_high());
-    let before = match plane {
-        Plane::Y => 0,
-        Plane::Cb => 256,
-        Plane::Cr => 320,
-    };
-    // for the proof: the last row is a small number
-    let _height = pic.height(plane);
-    before * macroblocks + (y * pic.width(plane) + x)
 }
 
 fn apart_in(pic: &Picture, plane: Plane) -> usize

@@ -1,68 +1,16 @@
--- The values of levels lie apart: what is close to one of them, and how close the nearest one is.
+-- The values of levels lie apart: what is close to one of them has its level.
 use Rattle.std.proofs.Common.{◌≡◌, ℕ, zero, suc, ◌+◌, ◌*◌, ◌/◌, ◌<◌, ◌≤◌, min, Bool, true, ℤ, pos, negsuc, neg_ℤ, unsigned_abs, arith, refl, sym, ap, ◌∙◌, ⊎_elim}
 use Rattle.std.proofs.Math.Nat.{div-add-mod', mod-lt, mul-le-mul_right}
 use Rattle.std.proofs.lemmas.Int.{ints}
 use Rattle.std.proofs.lemmas.Bool.{cases_lt}
 use Rattle.mv_quant.specs.Steps.{value_size, scaled_value, oddness, gap, IsNearestOf}
-use Rattle.mv_quant.specs.Nearest.{distance, nearest_level, NearestIsClose, CloseIsNearest}
+use Rattle.mv_quant.specs.Nearest.{distance, nearest_level, CloseIsNearest}
 use Rattle.mv_terms.specs.Ranges.{IsLevel}
 use Rattle.mv_quant.specs.Dequantised.{value_of, step_at}
 use Rattle.mv_quant.proofs.SizeLemmas.{close_size, sizes_apart, none_size}
 use Rattle.mv_quant.proofs.OrderLemmas.{no_farther, nearest_same}
 use Rattle.mv_quant.proofs.NearestLemmas.{level_is, value_scaled, other_is_nearest}
 use Rattle.mv_quant.proofs.SignLemmas.{value_pos, value_neg, value_of_neg, nearest_pos, nearest_neg, nearest_zero}
-
-even_size : (step n : ℕ) → value_size 0 step n ≡ 2 * n * step / 32
-unfolding value_size
-even_size step zero = omega arith
-even_size step (suc n) = ap (λ (m : ℕ). m * step / 32) (omega arith)
-
-abbrev around : ℕ → ℕ → ℕ
-around step n = (32 * n + step) / (2 * step)
-
-around_fits : (step n : ℕ) → 32 ≤ step → n ≤ 2047 → around step n ≤ 2047
-around_fits step n h k = ⊎_elim
-    (λ (l : 2047 < around step n).
-    let pos_step : 0 < 2 * step = omega arith in
-    let product : 2048 * (2 * step) ≤ around step n * (2 * step) = mul-le-mul_right (2 * step) l in
-    absurd (omega (arith, div-add-mod' (32 * n + step) (2 * step), product)))
-    (λ (l : around step n ≤ 2047). l)
-    (cases_lt 2047 (around step n))
-
-around_close : (step n : ℕ) → 32 ≤ step → n ≤ 2047 → (32 * value_size 0 step (around step n) ≤ 32 * n + step) × (32 * n ≤ 32 * value_size 0 step (around step n) + (step + 32))
-around_close step n h k =
-    let pos_step : 0 < 2 * step = omega arith in
-    let split = div-add-mod' (32 * n + step) (2 * step) in
-    let rest = mod-lt (32 * n + step) pos_step in
-    let value = even_size step (around step n) in
-    (omega (arith, split, rest, value), omega (arith, split, rest, value))
-
-scaled_is_close : (step : ℕ) (c q : ℤ) → 32 ≤ step → unsigned_abs c ≤ 2047 → IsNearestOf (scaled_value true step) IsLevel c q → 32 * distance (scaled_value true step q) c ≤ step + 32
-scaled_is_close step (pos n) q h k w =
-    let fits = around_fits step n h k in
-    let close = around_close step n h k in
-    let value = value_pos true step (around step n) in
-    let first = no_farther (scaled_value true step) (pos n) q (pos (around step n)) (w.first (pos (around step n)) (omega (arith, ints), omega (arith, ints))) in
-    let d : distance (scaled_value true step (pos (around step n))) (pos n) ≡ distance (pos (min (value_size 0 step (around step n)) 2047)) (pos n) = ap (λ (z : ℤ). distance z (pos n)) value in
-    omega (arith, ints, close.0, close.1, first, d)
-scaled_is_close step (negsuc n) q h k w =
-    let fits = around_fits step (suc n) h k in
-    let close = around_close step (suc n) h k in
-    let value = value_of_neg true step (around step (suc n)) in
-    let first = no_farther (scaled_value true step) (negsuc n) q (neg_ℤ (pos (around step (suc n)))) (w.first (neg_ℤ (pos (around step (suc n)))) (omega (arith, ints), omega (arith, ints))) in
-    let d : distance (scaled_value true step (neg_ℤ (pos (around step (suc n))))) (negsuc n) ≡ distance (neg_ℤ (pos (min (value_size 0 step (around step (suc n))) 2048))) (negsuc n) = ap (λ (z : ℤ). distance z (negsuc n)) value in
-    omega (arith, ints, close.0, close.1, first, d)
-
-pub nearest_is_close : NearestIsClose
-nearest_is_close kind v u c intra other h k =
-    let step : ℕ = step_at kind (8 * v + u) in
-    let q : ℤ = nearest_level kind v u c in
-    let w = other_is_nearest kind v u c other in
-    let same : (p : ℤ) → value_of kind v u p ≡ scaled_value true step p = λ p. value_scaled kind v u p other ∙ ap (λ (b : Bool). scaled_value b step p) intra in
-    let n : IsNearestOf (scaled_value true step) IsLevel c q = nearest_same (value_of kind v u) (scaled_value true step) IsLevel IsLevel c q same (λ p l. l) (λ p l. l) w in
-    rw (same q) (scaled_is_close step c q h k n)
-
--- ---- what is close to the value of a level
 
 at_zero : (intra : Bool) (step n : ℕ) → 2 * value_size (oddness intra) step n < step / 16 → n ≡ 0
 at_zero intra step zero h = refl

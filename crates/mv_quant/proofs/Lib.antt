@@ -8,3 +8,4 @@ pub mod OrderLemmas
 pub mod NearestLemmas
 pub mod RowLemmas
 pub mod CloseLemmas
+pub mod HalfLemmas

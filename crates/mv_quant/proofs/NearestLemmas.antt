@@ -16,7 +16,7 @@ pub value_scaled : (kind : Kind) (v u : ℕ) (level : ℤ) → is_first_of_intra
 unfolding value_of
 value_scaled kind v u level h = rw h refl
 
-value_dc : (kind : Kind) (v u : ℕ) (level : ℤ) → is_first_of_intra kind v u ≡ true → value_of kind v u level ≡ dc_value kind.dc_precision level
+pub value_dc : (kind : Kind) (v u : ℕ) (level : ℤ) → is_first_of_intra kind v u ≡ true → value_of kind v u level ≡ dc_value kind.dc_precision level
 unfolding value_of
 value_dc kind v u level h = rw h refl
 
@@ -140,16 +140,16 @@ dc_from value m top values c q h first = record {
         (first r fits))
     by (negsuc r) low high = absurd (omega (arith, ints, low))
 
-dc_value_8 : (r : ℕ) → r ≤ 255 → dc_value 0 (pos r) ≡ pos (8 * r)
+pub dc_value_8 : (r : ℕ) → r ≤ 255 → dc_value 0 (pos r) ≡ pos (8 * r)
 dc_value_8 r h = omega (arith, ints, clamps)
 
-dc_value_4 : (r : ℕ) → r ≤ 511 → dc_value 1 (pos r) ≡ pos (4 * r)
+pub dc_value_4 : (r : ℕ) → r ≤ 511 → dc_value 1 (pos r) ≡ pos (4 * r)
 dc_value_4 r h = omega (arith, ints, clamps)
 
-dc_value_2 : (r : ℕ) → r ≤ 1023 → dc_value 2 (pos r) ≡ pos (2 * r)
+pub dc_value_2 : (r : ℕ) → r ≤ 1023 → dc_value 2 (pos r) ≡ pos (2 * r)
 dc_value_2 r h = omega (arith, ints, clamps)
 
-dc_value_1 : (r : ℕ) → r ≤ 2047 → dc_value 3 (pos r) ≡ pos (1 * r)
+pub dc_value_1 : (r : ℕ) → r ≤ 2047 → dc_value 3 (pos r) ≡ pos (1 * r)
 dc_value_1 r h = omega (arith, ints, clamps)
 
 pub dc_of_positive : (precision c : ℕ) → precision ≤ 3 → IsNearestOf (dc_value precision) (IsUpTo (2 ^ (8 + precision) - 1)) (pos c) (pos (dc_size precision c))

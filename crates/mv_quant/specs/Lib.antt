@@ -3,3 +3,4 @@ pub mod Dequantised
 pub mod Macroblocks
 pub mod Nearest
 pub mod Steps
+pub mod Half

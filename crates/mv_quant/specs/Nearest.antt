@@ -75,7 +75,7 @@ NearestDcIsInRange = (kind : Kind) (c : ℤ) → kind.intra ≡ true
     → IsDcLevel kind.dc_precision (nearest_level kind 0 0 c)
 
 -- what is found near the value of a level has this level again: values of different levels lie at least a sixteenth of the
--- step apart, unless they are saturated;
+-- step apart, unless they are saturated.
 abbrev pub CloseIsNearest : Type 0
 CloseIsNearest =
     (kind : Kind) (v u : ℕ) (level c : ℤ) → is_first_of_intra kind v u ≡ false → IsLevel level
@@ -83,10 +83,3 @@ CloseIsNearest =
     2 * distance (value_of kind v u level) c < apart
     → unsigned_abs (value_of kind v u level) + apart ≤ 2047
     → nearest_level kind v u c ≡ level
-
--- and in an intra block the value of the nearest level lies within half of that, and one, of the coefficient.
-abbrev pub NearestIsClose : Type 0
-NearestIsClose =
-    (kind : Kind) (v u : ℕ) (c : ℤ) → kind.intra ≡ true → is_first_of_intra kind v u ≡ false
-    → 32 ≤ step_at kind (8 * v + u) → unsigned_abs c ≤ 2047
-    → 32 * distance (value_of kind v u (nearest_level kind v u c)) c ≤ step_at kind (8 * v + u) + 32

@@ -3,7 +3,8 @@
 
 ghost use Rattle.mv_quant.specs.Dequantised.{ValueIsSaturated, DequantisedIsSaturated, DequantisedOfSame};
 ghost use Rattle.mv_quant.specs.Macroblocks.{AbsentIsZero, CoefficientIsSaturated};
-ghost use Rattle.mv_quant.specs.Nearest.{NearestIsNearest, OneIsNearest, NearestIsLevel, NearestDcIsInRange, CloseIsNearest, NearestIsClose};
+ghost use Rattle.mv_quant.specs.Nearest.{NearestIsNearest, OneIsNearest, NearestIsLevel, NearestDcIsInRange, CloseIsNearest};
+ghost use Rattle.mv_quant.specs.Half.{NearestIsWithinHalf, OtherIsWithinHalf, FirstIsWithinHalf};
 
 /// The value of each level and each coefficient lies in −2048 to 2047.
 pub fn saturated_law()
@@ -34,8 +35,14 @@ pub fn nearest_range_law()
     ensures dc { NearestDcIsInRange }
 {}
 
-/// What is found near the value of a level has this level again, and the value of the nearest level is near.
+/// What is found near the value of a level has this level again.
 pub fn close_law()
-    ensures found { CloseIsNearest }
-    ensures near { NearestIsClose }
+    ensures { CloseIsNearest }
+{}
+
+/// The value of the nearest level lies within half of what values of neighbouring levels lie apart.
+pub fn half_law()
+    ensures intra { NearestIsWithinHalf }
+    ensures other { OtherIsWithinHalf }
+    ensures first { FirstIsWithinHalf }
 {}

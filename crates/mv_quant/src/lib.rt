@@ -3,7 +3,8 @@
 //! saturation and mismatch control, `nearest` the levels whose values are nearest to coefficients, and `scale_value`
 //! the scale of a code.
 //! The definitions stand in `specs/Scale.antt`, in `specs/Dequantised.antt`, where the value of one level stands
-//! alone, in `specs/Nearest.antt`, and for the blocks of a macroblock in `specs/Macroblocks.antt`.
+//! alone, in `specs/Nearest.antt`, how near its value comes in `specs/Half.antt`, and for the blocks of a macroblock in
+//! `specs/Macroblocks.antt`.
 #![tactic(auto)]
 
 ghost use Rattle.std.specs.Prelude.{◌≡◌, ◌<◌, ◌≤◌, true};
@@ -19,7 +20,8 @@ mod reciprocals;
 
 pub use block::{dequantise, first_value};
 pub use laws::{
-    close_law, coefficients_law, nearest_law, nearest_range_law, same_levels_law, saturated_law,
+    close_law, coefficients_law, half_law, nearest_law, nearest_range_law, same_levels_law,
+    saturated_law,
 };
 pub use levels::nearest;
 use mv_terms::{Decision, Head};
@@ -83,6 +85,3 @@ fn non_linear_scale(code: u8) -> u8
         _ => 8 * (code - 17),
     }
 }
-
-#[cfg(test)]
-mod tests;

@@ -17,12 +17,10 @@ ghost use Rattle.mv_recon.specs.Pictures.{picture_from};
 
 mod block;
 mod laws;
-mod layout;
 
 use block::samples_of;
 pub use laws::{locality_law, samples_law};
-use layout::{put_chroma, put_luma};
-use mv_planes::{Picture, Plane, RefPair};
+use mv_planes::{Picture, RefPair, part_at};
 use mv_predict::{MacroSamples, predict};
 use mv_quant::kind_of;
 use mv_terms::{Decision, Head, MacroLevels};
@@ -66,14 +64,10 @@ pub fn reconstruct(
             let field_dct = decisions[k].field_dct;
             let kind = kind_of(head, &decisions[k]);
             let blocks = &levels[k].blocks;
-            'luma: for b in 0..4 {
-                let luma = samples_of(&predicted.blocks[b], &blocks[b], &kind);
-                put_luma(to, field_dct, mb_x, mb_y, b, &luma);
+            'each: for b in 0..6 {
+                let samples = samples_of(&predicted.blocks[b], &blocks[b], &kind);
+                to.put_block(part_at(field_dct, mb_x, mb_y, b), &samples);
             }
-            let blue = samples_of(&predicted.blocks[4], &blocks[4], &kind);
-            put_chroma(to, Plane::Cb, mb_x, mb_y, &blue);
-            let red = samples_of(&predicted.blocks[5], &blocks[5], &kind);
-            put_chroma(to, Plane::Cr, mb_x, mb_y, &red);
         }
     }
 }
@@ -107,6 +101,3 @@ fn prediction<'a>(
 const NOT_PREDICTED: MacroSamples = MacroSamples {
     blocks: [[0; 64]; 6],
 };
-
-#[cfg(test)]
-mod tests;

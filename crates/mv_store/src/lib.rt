@@ -11,8 +11,6 @@
 
 mod laws;
 mod store;
-#[cfg(test)]
-mod tests;
 
 pub use laws::{answers_law, lent_law};
 pub use store::{Held, Lent, RefStore, Shown};

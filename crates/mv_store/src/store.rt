@@ -100,31 +100,36 @@ impl RefStore {
         }
     }
 
-    /// Lends for reading. Where `committed` is false, it is what `lend` lends for this type. Where it is true, it is
-    /// the picture that was committed last, if that one has this type and nothing was lent since, with the references
-    /// that it had.
-    pub fn held(&self, pic: PicType, committed: bool) -> Held<'_>
-        ensures next_refs { (mb_wide mb_high : ℕ) (before : List DecodedPicture)
-            → committed ≡ false → StandsFor mb_wide mb_high self.now before
+    /// Lends for reading what `lend` lends for this type.
+    pub fn next(&self, pic: PicType) -> Held<'_>
+        ensures refs { (mb_wide mb_high : ℕ) (before : List DecodedPicture)
+            → StandsFor mb_wide mb_high self.now before
             → HasReferences result.refs pic mb_wide mb_high before }
-        ensures next_picture { committed ≡ false → result.picture.now ≡ self.now.current }
-        ensures last_refs { (mb_wide mb_high : ℕ) (picture : Planes) (before : List DecodedPicture)
-            → committed ≡ true
+        ensures picture { result.picture.now ≡ self.now.current }
+    {
+        Held {
+            refs: references(pic, &self.newer, &self.older),
+            picture: &self.current,
+        }
+    }
+
+    /// Lends for reading the picture that was committed last, if that one has this type and nothing was lent since, with
+    /// the references that it had.
+    pub fn last(&self, pic: PicType) -> Held<'_>
+        ensures refs { (mb_wide mb_high : ℕ) (picture : Planes) (before : List DecodedPicture)
             → HasCommitted mb_wide mb_high self.now (record { pic = pic; picture = picture }) before
             → HasReferences result.refs pic mb_wide mb_high before }
-        ensures last_picture { (mb_wide mb_high : ℕ) (picture : Planes)
-            (before : List DecodedPicture)
-            → committed ≡ true
+        ensures picture { (mb_wide mb_high : ℕ) (picture : Planes) (before : List DecodedPicture)
             → HasCommitted mb_wide mb_high self.now (record { pic = pic; picture = picture }) before
             → result.picture.now ≡ picture }
     {
-        match (pic, committed) {
+        match pic {
             // it took the place of the anchor before it, and left its own to the oldest one
-            (PicType::I | PicType::P, true) => Held {
+            PicType::I | PicType::P => Held {
                 refs: references(pic, &self.older, &self.current),
                 picture: &self.newer,
             },
-            _ => Held {
+            PicType::B => Held {
                 refs: references(pic, &self.newer, &self.older),
                 picture: &self.current,
             },

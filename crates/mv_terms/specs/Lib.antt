@@ -1,4 +1,5 @@
 pub mod PicTypes
+pub mod Structures
 pub mod Unsupported
 pub mod Ranges
 pub mod Rates
@@ -8,6 +9,7 @@ pub mod Decisions
 pub mod CodedPicture
 pub mod UnitLists
 pub mod Order
+pub mod Frames
 pub mod Sums
 pub mod Block
 pub mod Texts

@@ -1,5 +1,6 @@
 //! What the headers of a sequence and of a picture say (H.262, 6.2.2 and 6.2.3).
 ghost use Rattle.std.specs.Prelude.{◌≡◌, ◌<◌, ◌≤◌, ◌^◌, ◌↔◌, IsTrue, All};
+ghost use Rattle.mv_terms.specs.Structures.{IsOfFrame, is_frame};
 ghost use Rattle.mv_terms.specs.Matrices.{default_matrices};
 ghost use Rattle.mv_terms.specs.Ranges.{IsUsed, has_forward, has_backward, HasNoZero, HasLegalSize, HasLegalRate, HasLegalFCodes, IsPictureSize, IsContext, IsHead, macroblock_columns, macroblock_rows};
 
@@ -10,6 +11,15 @@ pub enum PicType {
     I,
     P,
     B,
+}
+
+/// The structure of a picture, `picture_structure` (H.262, 6.3.10): a frame, or a field of one, that of its even lines or
+/// that of its odd lines.
+#[derive(Clone, Copy, Debug, PartialEq, Eq)]
+pub enum Structure {
+    Frame,
+    Top,
+    Bottom,
 }
 
 /// The quantiser matrices, in raster order; no entry is 0 (H.262, 6.3.11).
@@ -53,6 +63,9 @@ pub struct Head {
     pub f_code: [[u8; 2]; 2],
     /// `intra_dc_precision`, 0 to 3 for 8 to 11 bits.
     pub dc_precision: u8,
+    pub structure: Structure,
+    /// `top_field_first`.
+    pub top_first: bool,
     /// `frame_pred_frame_dct`.
     pub frame_only: bool,
     /// `concealment_motion_vectors`.
@@ -63,7 +76,10 @@ pub struct Head {
     pub table_15: bool,
     /// `alternate_scan`.
     pub alternate: bool,
+    /// The picture is the second field of its frame.
+    pub second: bool,
     pub mb_wide: u16,
+    /// The rows of macroblocks of this picture: a field has half of those of its frame.
     pub mb_high: u16,
     pub matrices: Matrices,
 }
@@ -147,6 +163,12 @@ fn are_used(f_codes: &[u8; 2]) -> bool
     f_codes.iter().all(|n| *n > 0 && *n <= 9)
 }
 
+fn is_frame(structure: Structure) -> bool
+    ensures { result ≡ is_frame structure }
+{
+    matches!(structure, Structure::Frame)
+}
+
 /// The width in macroblocks of a picture that is so many luma samples wide (H.262, 6.3.3).
 pub fn macroblock_columns(width: u16) -> u16
     requires { width < 2 ^ 14 }
@@ -193,15 +215,41 @@ impl Context {
 }
 
 impl Head {
-    /// Whether each field is in its legal range.
+    /// Stands where no head is read yet: that of an I frame picture without macroblocks.
+    pub const NONE: Head = Head {
+        pic: PicType::I,
+        temporal: 0,
+        f_code: [[0; 2]; 2],
+        dc_precision: 0,
+        structure: Structure::Frame,
+        top_first: false,
+        frame_only: true,
+        concealment: false,
+        non_linear: false,
+        table_15: false,
+        alternate: false,
+        second: false,
+        mb_wide: 0,
+        mb_high: 0,
+        matrices: Matrices::DEFAULT,
+    };
+
+    /// Whether each field is in its legal range, and the picture is a frame.
     pub fn is_legal(&self) -> bool
         ensures { IsTrue result ↔ IsHead self.now }
     {
         self.temporal < 1024
+            && self.is_of_frame()
             && self.has_legal_f_codes()
             && self.dc_precision <= 3
             && self.has_legal_size()
             && self.matrices.is_legal()
+    }
+
+    fn is_of_frame(&self) -> bool
+        ensures { IsTrue result ↔ IsOfFrame self.now }
+    {
+        is_frame(self.structure) && !self.second
     }
 
     fn has_legal_size(&self) -> bool
@@ -228,17 +276,29 @@ mod tests {
     fn head(pic: PicType, f_code: [[u8; 2]; 2]) -> Head {
         Head {
             pic,
-            temporal: 0,
             f_code,
-            dc_precision: 0,
-            frame_only: true,
-            concealment: false,
-            non_linear: false,
-            table_15: false,
-            alternate: false,
             mb_wide: 6,
             mb_high: 4,
-            matrices: Matrices::DEFAULT,
+            ..Head::NONE
+        }
+    }
+
+    #[test]
+    fn field_pictures_are_not_legal(rt: HostRuntime) {
+        let frame = head(PicType::I, [[15; 2]; 2]);
+        let cases: [(Structure, bool, bool); 4] = [
+            (Structure::Frame, false, true),
+            (Structure::Frame, true, false),
+            (Structure::Top, false, false),
+            (Structure::Bottom, true, false),
+        ];
+        for (structure, second, legal) in cases {
+            let head = Head {
+                structure,
+                second,
+                ..frame
+            };
+            assert_eq!(rt; head.is_legal(), legal);
         }
     }
 

@@ -1,5 +1,5 @@
 -- A line there and back, and then a block: the weights of two frequencies are nearly at right angles.
-use Rattle.std.proofs.Common.{◌≡◌, ℕ, zero, suc, ◌+◌, ◌-◌, ◌*◌, ◌<◌, ◌≤◌, ℤ, pos, negsuc, ◌+ℤ◌, ◌-ℤ◌, ◌*ℤ◌, unsigned_abs, cond, nat_eq, refl, ap, sym, ◌∙◌, arith}
+use Rattle.std.proofs.Common.{◌≡◌, ℕ, zero, suc, ◌-◌, ◌*◌, ◌<◌, ◌≤◌, ℤ, pos, negsuc, ◌+ℤ◌, ◌-ℤ◌, ◌*ℤ◌, unsigned_abs, cond, nat_eq, refl, ap, sym, ◌∙◌, arith}
 use Rattle.std.proofs.lemmas.Int.{ints, unsigned_abs-mul}
 use Rattle.std.proofs.lemmas.Nat.{mul-le}
 use Rattle.std.proofs.Math.IntN.{*ℤ_comm}
@@ -9,15 +9,15 @@ use Rattle.mv_terms.specs.Sums.{sum_below, total_below}
 use Rattle.mv_terms.proofs.SumLemmas.{mul-add_ℤ, mul_assoc_ℤ, sum_below_same, sum_below_scaled}
 use Rattle.mv_transform.specs.Basis.{basis}
 use Rattle.mv_transform.specs.Lines.{inverse_line, forward_line}
-use Rattle.mv_transform.specs.Transform.{inverse_sum, forward_sum, inverse_at, forward_at, rounded, saturated}
-use Rattle.mv_transform.specs.Back.{IsInverse, ForwardOfInverseIsClose, InverseOfZeros, ForwardOfZeros, FirstIsSum}
+use Rattle.mv_transform.specs.Transform.{inverse_sum, forward_sum, forward_at, rounded, saturated}
+use Rattle.mv_transform.specs.Back.{ForwardOfInverseIsClose, InverseOfZeros, ForwardOfZeros, FirstIsSum}
 use Rattle.mv_transform.proofs.BasisLemmas.{same_table, table}
 use Rattle.mv_transform.proofs.LineLemmas.{inverse_by_lines, forward_by_lines, forward_line_same, inverse_line_same, parts_sum}
 use Rattle.mv_transform.proofs.SparseLemmas.{sum_below_total}
 
 -- ---- sums of sums
 
-sum_plus : (n : ℕ) (f g : ℕ → ℤ) → sum_below n (λ k. f k +ℤ g k) ≡ sum_below n f +ℤ sum_below n g
+pub sum_plus : (n : ℕ) (f g : ℕ → ℤ) → sum_below n (λ k. f k +ℤ g k) ≡ sum_below n f +ℤ sum_below n g
 unfolding sum_below
 sum_plus zero f g = refl
 sum_plus (suc n) f g = let e : sum_below n (λ k. f k +ℤ g k) ≡ sum_below n f +ℤ sum_below n g = sum_plus n f g in omega (arith, ints, e)
@@ -28,14 +28,14 @@ sum_zero zero = refl
 sum_zero (suc n) = let e : sum_below n (λ k. pos 0) ≡ pos 0 = sum_zero n in omega (arith, ints, e)
 
 -- in either order
-sum_swap : (m n : ℕ) (f : ℕ → ℕ → ℤ) → sum_below m (λ i. sum_below n (λ j. f i j)) ≡ sum_below n (λ j. sum_below m (λ i. f i j))
+pub sum_swap : (m n : ℕ) (f : ℕ → ℕ → ℤ) → sum_below m (λ i. sum_below n (λ j. f i j)) ≡ sum_below n (λ j. sum_below m (λ i. f i j))
 unfolding sum_below
 sum_swap zero n f = sym (sum_zero n)
 sum_swap (suc m) n f =
     let e : sum_below m (λ i. sum_below n (λ j. f i j)) ≡ sum_below n (λ j. sum_below m (λ i. f i j)) = sum_swap m n f in
     ap (λ (z : ℤ). z +ℤ sum_below n (λ j. f m j)) e ∙ sym (sum_plus n (λ j. sum_below m (λ i. f i j)) (λ j. f m j))
 
-turned : (a b g : ℤ) → a *ℤ (b *ℤ g) ≡ b *ℤ (a *ℤ g)
+pub turned : (a b g : ℤ) → a *ℤ (b *ℤ g) ≡ b *ℤ (a *ℤ g)
 turned a b g = sym (mul_assoc_ℤ a b g) ∙ (ap (λ (z : ℤ). z *ℤ g) (*ℤ_comm a b) ∙ mul_assoc_ℤ b a g)
 
 -- the forward line of a sum of lines g, each so many times
@@ -52,23 +52,23 @@ mixed b g u =
 -- ---- a line there and back
 
 -- the products of the weights of two frequencies, summed over the places
-product_sum : ℕ → ℕ → ℤ
+unfoldable pub product_sum : ℕ → ℕ → ℤ
 product_sum u k = sum_below 8 (λ x. basis u x *ℤ basis k x)
 
-right_angle : ℕ → ℕ → ℤ
+unfoldable pub right_angle : ℕ → ℕ → ℤ
 right_angle u k = cond (nat_eq u k) (pos 67108864) (pos 0)
 
-abbrev defect : ℕ → ℕ → ℤ
+abbrev pub defect : ℕ → ℕ → ℤ
 defect u k = product_sum u k -ℤ right_angle u k
 
-by_products : (F : ℕ → ℤ) (u : ℕ) → forward_line (inverse_line F) u ≡ sum_below 8 (λ k. F k *ℤ product_sum u k)
+pub by_products : (F : ℕ → ℤ) (u : ℕ) → forward_line (inverse_line F) u ≡ sum_below 8 (λ k. F k *ℤ product_sum u k)
 unfolding inverse_line forward_line product_sum
 by_products F u =
     sum_below_same 8 (λ x. basis u x *ℤ sum_below 8 (λ k. basis k x *ℤ F k)) (λ x. basis u x *ℤ sum_below 8 (λ k. F k *ℤ basis k x))
     (λ x h. ap (λ (z : ℤ). basis u x *ℤ z) (sum_below_same 8 (λ k. basis k x *ℤ F k) (λ k. F k *ℤ basis k x) (λ k l. *ℤ_comm (basis k x) (F k))))
     ∙ mixed F basis u
 
-own_value : (F : ℕ → ℤ) (u : ℕ) → u < 8 → sum_below 8 (λ k. F k *ℤ right_angle u k) ≡ pos 67108864 *ℤ F u
+pub own_value : (F : ℕ → ℤ) (u : ℕ) → u < 8 → sum_below 8 (λ k. F k *ℤ right_angle u k) ≡ pos 67108864 *ℤ F u
 unfolding sum_below right_angle
 own_value F zero h = omega (arith, ints)
 own_value F (suc zero) h = omega (arith, ints)
@@ -85,7 +85,7 @@ defects_excess : table (λ u k. pos (total_below 8 (λ k. unsigned_abs (defect u
 unfolding basis total_below sum_below product_sum right_angle
 defects_excess = refl
 
-defects : (u : ℕ) → u < 8 → total_below 8 (λ k. unsigned_abs (defect u k)) ≤ 14336
+pub defects : (u : ℕ) → u < 8 → total_below 8 (λ k. unsigned_abs (defect u k)) ≤ 14336
 defects u h =
     let e : pos (total_below 8 (λ k. unsigned_abs (defect u k)) - 14336) ≡ pos 0 =
     same_table (λ u k. pos (total_below 8 (λ k. unsigned_abs (defect u k)) - 14336)) (λ u k. pos 0) defects_excess u 0 h (omega arith) in
@@ -101,8 +101,11 @@ weights u h =
     same_table (λ u x. pos (total_below 8 (λ k. unsigned_abs (basis u k)) - 23168)) (λ u x. pos 0) weights_excess u 0 h (omega arith) in
     omega (arith, ap unsigned_abs e)
 
-product_size : (a b : ℤ) (m : ℕ) → unsigned_abs a ≤ m → unsigned_abs (a *ℤ b) ≤ m * unsigned_abs b
+pub product_size : (a b : ℤ) (m : ℕ) → unsigned_abs a ≤ m → unsigned_abs (a *ℤ b) ≤ m * unsigned_abs b
 product_size a b m h = rw unsigned_abs-mul (mul-le (unsigned_abs a) (unsigned_abs b) m (unsigned_abs b) h (omega arith))
+
+pub whole : (a b : ℤ) → a ≡ (a -ℤ b) +ℤ b
+whole a b = omega (arith, ints)
 
 -- in units of 2^-26, a line there and back is within 14336 times its greatest value
 near_line : (m : ℕ) (F : ℕ → ℤ) (u : ℕ) → u < 8 → ((k : ℕ) → k < 8 → unsigned_abs (F k) ≤ m) → unsigned_abs (forward_line (inverse_line F) u -ℤ pos 67108864 *ℤ F u) ≤ m * 14336
@@ -116,9 +119,6 @@ near_line m F u hu small =
     close (forward_line (inverse_line F) u) (sum_below 8 (λ k. F k *ℤ defect u k)) (pos 67108864 *ℤ F u) (m * 14336)
     (by_products F u ∙ split ∙ ap (λ (z : ℤ). sum_below 8 (λ k. F k *ℤ defect u k) +ℤ z) (own_value F u hu)) (omega (arith, rest, most))
   where
-    whole : (a b : ℤ) → a ≡ (a -ℤ b) +ℤ b
-    whole a b = omega (arith, ints)
-
     close : (a b c : ℤ) (n : ℕ) → a ≡ b +ℤ c → unsigned_abs b ≤ n → unsigned_abs (a -ℤ c) ≤ n
     close a b c n e h = omega (arith, ints)
 
@@ -162,7 +162,7 @@ sums_close F small v u hv hu =
         → unsigned_abs (s -ℤ pos 4503599627370496 *ℤ f) ≤ 3941070580744192
     together s l h f e a b = omega (arith, ints)
 
-rounded_near : (z : ℤ) → unsigned_abs (pos 67108864 *ℤ rounded z -ℤ z) ≤ 33554432
+pub rounded_near : (z : ℤ) → unsigned_abs (pos 67108864 *ℤ rounded z -ℤ z) ≤ 33554432
 rounded_near z = by (z +ℤ pos 33554432) z refl
   where
     by : (a z : ℤ) → a ≡ z +ℤ pos 33554432 → unsigned_abs (pos 67108864 *ℤ int_shr a 26 -ℤ z) ≤ 33554432

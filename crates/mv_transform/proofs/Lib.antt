@@ -2,9 +2,11 @@ pub mod BasisLemmas
 pub mod TransformLemmas
 pub mod BoundLemmas
 pub mod TurnedLemmas
-pub mod LargestLemmas
 pub mod LineLemmas
 pub mod PassLemmas
 pub mod TotalLemmas
 pub mod SparseLemmas
 pub mod BackLemmas
+pub mod PlaceLemmas
+pub mod NearLemmas
+pub mod SquareLemmas

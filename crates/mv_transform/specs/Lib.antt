@@ -3,3 +3,4 @@ pub mod Transform
 pub mod Lines
 pub mod Steps
 pub mod Back
+pub mod Near

@@ -3,6 +3,7 @@
 ghost use Rattle.mv_transform.specs.Basis.{BasisIsMirrored};
 ghost use Rattle.mv_transform.specs.Lines.{InverseIsFolded, ForwardIsFolded, InverseByLines, ForwardByLines};
 ghost use Rattle.mv_transform.specs.Back.{ForwardOfInverseIsClose, InverseOfZeros, ForwardOfZeros, FirstIsSum};
+ghost use Rattle.mv_transform.specs.Near.{InverseOfForwardIsNear, SquaresOfErrorsAreSmall};
 ghost use Rattle.mv_transform.specs.Transform.{InverseIsSaturated, ForwardIsBounded, InverseOfSame, ForwardOfSame};
 
 /// The weights at two places that mirror each other are equal, but for the sign of odd frequencies.
@@ -49,4 +50,15 @@ pub fn sum_law()
     ensures inverse { InverseOfZeros }
     ensures forward { ForwardOfZeros }
     ensures first { FirstIsSum }
+{}
+
+/// Where the coefficients of samples in −255 to 255 are changed, each sample comes back to within what the changes
+/// bring to its place, and 21/32 for the rounding of both directions.
+pub fn near_law()
+    ensures { InverseOfForwardIsNear }
+{}
+
+/// The squares of all 64 errors together are hardly more than those of the changes.
+pub fn squares_law()
+    ensures { SquaresOfErrorsAreSmall }
 {}

@@ -4,7 +4,8 @@
 //! products with fixed integer weights, rounded once at its end: the same answer on every machine.
 //! The definitions stand in `specs/Basis.antt`, the weights by their rule, and in
 //! `specs/Transform.antt`, both directions over a block as a function of row and column;
-//! `specs/Back.antt` says what one direction after the other gives.
+//! `specs/Back.antt` says what one direction after the other gives, and `specs/Near.antt` how far samples come to
+//! lie from themselves where their coefficients are changed in between.
 #![tactic(auto)]
 
 ghost use Rattle.std.specs.Prelude.{◌≡◌, ℕ, ◌<◌};
@@ -27,7 +28,7 @@ mod weights;
 use dense::inverse_of_dense;
 pub use laws::{
     back_law, folded_lines_law, forward_bounded_law, inverse_saturated_law, lines_law,
-    mirrored_basis_law, same_block_law, sum_law,
+    mirrored_basis_law, near_law, same_block_law, squares_law, sum_law,
 };
 use passes::{forward_of_rows, widened};
 pub use plain::{plain_forward, plain_inverse};
@@ -64,6 +65,3 @@ pub fn forward(s: &[i16; 64]) -> [i16; 64]
     }
     coefficients
 }
-
-#[cfg(test)]
-mod tests;

@@ -22,3 +22,4 @@ mod WalkLaws
 mod WalkSteps
 pub mod WrittenLaws
 mod ZeroLaws
+pub mod RoomLaws

@@ -1,6 +1,6 @@
 -- What is accepted of a stream, unit by unit, and why the next one is refused: by cutting first, then by its headers,
 -- then by its slices.
-use Rattle.std.specs.Prelude.{◌≡◌, ◌⊎◌, ℕ, List, [], ◌∷◌, length, Option, None, Some, Result, Ok, Err}
+use Rattle.std.specs.Prelude.{◌≡◌, ◌≤◌, ◌⊎◌, ℕ, List, [], ◌∷◌, length, Option, None, Some, Result, Ok, Err}
 use Rattle.mv_terms.specs.declared.status.Why.{Why}
 use Rattle.mv_terms.specs.CodedPicture.{CodedPicture}
 use Rattle.mv_terms.specs.UnitLists.{UnitLists}
@@ -79,3 +79,9 @@ pub record HasOneJudgement (room : ℕ) (bytes : List ℕ) : Type 0 where
 
 abbrev pub EachStreamIsJudgedOnce : Type 0
 EachStreamIsJudgedOnce = (room : ℕ) (bytes : List ℕ) → HasOneJudgement room bytes
+
+-- LAW: where no unit of a stream is refused, more room changes nothing.
+abbrev pub MoreRoomIsFree : Type 0
+MoreRoomIsFree =
+    (room more : ℕ) (bytes : List ℕ) (judged : Judged) → HasUnitsIn room bytes judged
+    → judged.refusal ≡ None → length bytes ≤ more → HasUnitsIn more bytes judged

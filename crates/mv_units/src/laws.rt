@@ -1,5 +1,5 @@
 //! Laws of what the specs define, for crates above.
-ghost use Rattle.mv_units.specs.Profile.{EachStreamIsJudgedOnce};
+ghost use Rattle.mv_units.specs.Profile.{EachStreamIsJudgedOnce, MoreRoomIsFree};
 ghost use Rattle.mv_units.specs.Units.{OpenStreamsShowMore, UnitsWithinNeverFall};
 ghost use Rattle.mv_units.specs.Written.{StreamsAreCutWhole, UnitsHaveShape, WrittenUnitsAreCut};
 
@@ -37,3 +37,8 @@ pub fn judged_once_law()
     // for the proof: slices are coded in one way, or refused for one reason
     slices_law();
 }
+
+/// A stream no unit of which is refused is judged alike in any room that it fits.
+pub fn more_room_law()
+    ensures { MoreRoomIsFree }
+{}

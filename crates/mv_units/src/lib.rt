@@ -19,12 +19,10 @@ mod walk;
 
 pub use cutter::{Cut, Cutter};
 pub use laws::{
-    cut_whole_law, judged_once_law, open_stream_law, shape_law, units_within_law, written_law,
+    cut_whole_law, judged_once_law, more_room_law, open_stream_law, shape_law, units_within_law,
+    written_law,
 };
 pub use next::Before;
 pub use parts::PartLengths;
 pub use place::Place;
 pub use walk::{Found, Next};
-
-#[cfg(test)]
-mod tests;

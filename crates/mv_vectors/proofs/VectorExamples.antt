@@ -3,8 +3,8 @@ use Rattle.std.proofs.Common.{◌≡◌, true, false, [], ◌∷◌, refl, pos, 
 use Rattle.std.specs.Int.{int_div_euclid}
 use Rattle.mv_terms.specs.declared.head.PicType.TheVariants as pic
 use Rattle.mv_terms.specs.declared.head.Head.{Head}
+use Rattle.mv_terms.specs.CodedPicture.{no_head}
 use Rattle.mv_terms.specs.declared.macroblock.Decision.{Decision}
-use Rattle.mv_terms.specs.Matrices.{default_matrices}
 use Rattle.mv_terms.specs.Decisions.{vector, still, no_decision}
 use Rattle.mv_vectors.specs.Vectors.{delta, wrapped, f_of}
 use Rattle.mv_vectors.specs.Inside.{chroma, lies_in, are_vectors_in_range}
@@ -32,19 +32,12 @@ at_the_edges = (refl, refl, refl, refl)
 
 -- a P picture of 6 by 4 macroblocks whose vectors lie between -16 and 15
 abbrev p_head : Head
-p_head = record {
+p_head = record no_head {
   pic = pic.P;
-  temporal = 0;
   f_code = (1 ∷ 1 ∷ []) ∷ (15 ∷ 15 ∷ []) ∷ [];
-  dc_precision = 0;
   frame_only = false;
-  concealment = false;
-  non_linear = false;
-  table_15 = false;
-  alternate = false;
   mb_wide = 6;
   mb_high = 4;
-  matrices = default_matrices;
 }
 
 -- field-based prediction with the second vector 16 half samples down

@@ -8,8 +8,6 @@
 mod bytes;
 mod laws;
 mod numbers;
-#[cfg(test)]
-mod tests;
 
 pub use laws::numbered_law;
 pub use numbers::{CONTEXT_LIMIT, ContextNumbers};

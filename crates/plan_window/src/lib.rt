@@ -8,8 +8,6 @@
 
 mod laws;
 mod summary;
-#[cfg(test)]
-mod tests;
 mod window;
 
 pub use laws::{numbers_law, plan_law, steps_law};

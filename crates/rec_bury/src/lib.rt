@@ -18,6 +18,3 @@ pub use laws::bury_law;
 pub use seals::{seal, seal_holds};
 pub use slots::exhume;
 pub use sources::source;
-
-#[cfg(test)]
-mod tests;

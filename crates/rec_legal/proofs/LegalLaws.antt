@@ -1,16 +1,17 @@
 -- The tests of decisions tell which ones are legal.
-use Rattle.std.proofs.Common.{◌≡◌, ℕ, ◌+◌, ◌/◌, ◌%◌, ◌∙◌, Bool, true, false, cond, not, ◌&&◌, ◌||◌, eqb, List, [], ◌∷◌, length, get_or, refl, sym, ap, subst}
+use Rattle.std.proofs.Common.{◌≡◌, ℕ, ◌+◌, ◌/◌, ◌%◌, ◌∙◌, Bool, true, false, cond, not, ◌&&◌, ◌||◌, eqb, List, [], ◌∷◌, length, get_or, refl, sym, ap, subst, ℤ, pos}
 use Rattle.std.specs.Bool.{Decides}
+use Rattle.std.specs.Ordering.{int_eq}
 use Rattle.std.specs.List.{AllByRecursion}
 use Rattle.std.proofs.lemmas.Bool.{false≢true}
-use Rattle.std.proofs.lemmas.Bool.Decides.{Decides-and, Decides-like, Decides-eqb}
+use Rattle.std.proofs.lemmas.Bool.Decides.{Decides-and, Decides-like, Decides-eqb, Decides-int_eq}
 use Rattle.mv_terms.specs.declared.head.PicType.{PicType}
 use Rattle.mv_terms.specs.declared.head.PicType.TheVariants as pic
 use Rattle.mv_terms.specs.declared.head.Head.{Head}
 use Rattle.mv_terms.specs.declared.macroblock.Vector.{Vector}
 use Rattle.mv_terms.specs.declared.macroblock.Decision.{Decision}
 use Rattle.mv_terms.specs.PicTypes.{is_b}
-use Rattle.mv_terms.specs.Decisions.{still, vector_of, select_of}
+use Rattle.mv_terms.specs.Decisions.{HasPlainOrFieldMotion, dmvector_of, no_dmvector, still, vector_of, select_of}
 use Rattle.mv_vectors.specs.Vectors.{Directed, directed, undirected, frame_directed, predictor}
 use Rattle.mv_vectors.specs.Inside.{is_inside, are_vectors_in_range}
 use Rattle.mv_vectors.specs.Predictable.{HasLegalDirections}
@@ -19,7 +20,7 @@ use Rattle.mv_macro.specs.Macroblocks.{skipped_behind}
 use Rattle.mv_macro.specs.Legal.{counted, HasLegalVectors, IsLegalSkipped, IsLegalIntra, IsLegalInter, IsLegal, ends_slice, in_its_slice, IsLegalAt, AreLegalFrom}
 use Rattle.rec_slot.specs.Slot.{IsHeld}
 use Rattle.rec_legal.specs.declared.decisions.Past.{Past}
-use Rattle.rec_legal.specs.Tests.{has_first_alone, has_none, has_legal_vectors, says_nothing, takes_both_over, is_legal_skipped, is_legal_intra, has_legal_directions, is_legal_inter, is_head_scale, is_legal, no_past, past_in_slice, past_behind, is_legal_at, are_legal_from}
+use Rattle.rec_legal.specs.Tests.{has_first_alone, has_none, has_legal_vectors, says_nothing, takes_both_over, is_legal_skipped, is_legal_intra, has_legal_directions, has_plain_or_field_motion, is_legal_inter, is_head_scale, is_legal, no_past, past_in_slice, past_behind, is_legal_at, are_legal_from}
 use Rattle.rec_legal.proofs.OptionLemmas.{both_true, true_both}
 use Rattle.rec_legal.proofs.DecideLemmas.{itself, flag_decides, not_decides, where_decides, scale_decides, head_scale_decides, vector_decides}
 
@@ -67,8 +68,25 @@ backward_is d h = λ i. record { selects = get_or (h.selects i) 1 []; vectors = 
 abbrev four : {X : Type 0} → X → X → X → X → List (List X)
 four a b c d = (a ∷ b ∷ []) ∷ (c ∷ d ∷ []) ∷ []
 
+-- a decision of plain or field motion
 abbrev decided : Bool → Bool → Bool → Bool → Bool → Bool → Bool → Bool → ℕ → List (List Bool) → List (List Vector) → ℕ → Decision
-decided a b c d e f g h s t v z = record { slice_start = a; skipped = b; quant = c; intra = d; forward = e; backward = f; field_dct = g; field_motion = h; scale = s; selects = t; vectors = v; head_scale = z }
+decided a b c d e f g h s t v z = record { slice_start = a; skipped = b; quant = c; intra = d; forward = e; backward = f; field_dct = g; field_motion = h; half = false; dual = false; scale = s; selects = t; vectors = v; dual_delta = no_dmvector; head_scale = z }
+
+is_decided : (d : Decision) → HasPlainOrFieldMotion d
+    → d ≡ decided d.slice_start d.skipped d.quant d.intra d.forward d.backward d.field_dct d.field_motion d.scale d.selects d.vectors d.head_scale
+is_decided d motion = λ i. record d { half = motion.half i; dual = motion.dual i; dual_delta = motion.dual_delta i }
+
+no_dmvector_decides : (x y : ℤ) → Decides (int_eq x (pos 0) && int_eq y (pos 0)) (x ∷ y ∷ [] ≡ no_dmvector)
+no_dmvector_decides x y =
+    Decides-like _ (λ e. λ i. e.0 i ∷ e.1 i ∷ []) (λ e. (ap (λ (z : List ℤ). get_or z 0 (pos 0)) e, ap (λ (z : List ℤ). get_or z 1 (pos 0)) e))
+    (Decides-and _ _ (Decides-int_eq x (pos 0)) (Decides-int_eq y (pos 0)))
+
+motion_decides : (d : Decision) → IsHeld d → Decides (has_plain_or_field_motion d) (HasPlainOrFieldMotion d)
+motion_decides d h =
+    Decides-like _
+    (λ e. record { half = e.0.0; dual = e.0.1; dual_delta = h.dual_delta ∙ e.1 })
+    (λ m. ((m.half, m.dual), sym h.dual_delta ∙ m.dual_delta))
+    (Decides-and _ _ (Decides-and _ _ (not_decides d.half) (not_decides d.dual)) (no_dmvector_decides (dmvector_of d 0) (dmvector_of d 1)))
 
 module _ (head : Head) (s : Seen) (d : Decision) (h : IsHeld d) where
   abbrev takes_forward : Bool
@@ -78,11 +96,11 @@ module _ (head : Head) (s : Seen) (d : Decision) (h : IsHeld d) where
   takes_backward = is_b head.pic && s.before_backward
 
   -- what a skipped macroblock is, from what it says
-  is_skipped : d.skipped ≡ true → d.slice_start ≡ false → d.head_scale ≡ 0 → says_nothing d ≡ true → takes_both_over head s d ≡ true → d ≡ skipped_behind head s d.scale
-  is_skipped k start head_scale nothing both =
+  is_skipped : HasPlainOrFieldMotion d → d.skipped ≡ true → d.slice_start ≡ false → d.head_scale ≡ 0 → says_nothing d ≡ true → takes_both_over head s d ≡ true → d ≡ skipped_behind head s d.scale
+  is_skipped m k start head_scale nothing both =
       let n = both_true _ _ nothing in
-      let m = both_true _ _ n.0 in
-      let l = both_true _ _ m.0 in
+      let n' = both_true _ _ n.0 in
+      let l = both_true _ _ n'.0 in
       let t = both_true _ _ both in
       let f = both_true _ _ t.0 in
       let f' = both_true _ _ f.0 in
@@ -96,11 +114,11 @@ module _ (head : Head) (s : Seen) (d : Decision) (h : IsHeld d) where
       let backward = (flag_decides d.backward takes_backward).0 b'.0 in
       let quant = (not_decides d.quant).0 l.0 in
       let intra = (not_decides d.intra).0 l.1 in
-      let dct = (not_decides d.field_dct).0 m.1 in
+      let dct = (not_decides d.field_dct).0 n'.1 in
       let motion = (not_decides d.field_motion).0 n.1 in
       let selects : d.selects ≡ four false false false false = h.selects ∙ (λ i. four (fa.0.0 i) (fa.0.1 i) (ba.0.0 i) (ba.0.1 i)) in
       let vectors : d.vectors ≡ four (cond takes_forward s.forward still) still (cond takes_backward s.backward still) still = h.vectors ∙ (λ i. four (fv i) (fa.1 i) (bv i) (ba.1 i)) in
-      λ i. decided (start i) (k i) (quant i) (intra i) (forward i) (backward i) (dct i) (motion i) d.scale (selects i) (vectors i) (head_scale i)
+      is_decided d m ∙ (λ i. decided (start i) (k i) (quant i) (intra i) (forward i) (backward i) (dct i) (motion i) d.scale (selects i) (vectors i) (head_scale i))
 
   -- and what it says, from what it is
   says_skipped : d ≡ skipped_behind head s d.scale → (says_nothing d ≡ true) × (takes_both_over head s d ≡ true)
@@ -121,8 +139,8 @@ module _ (head : Head) (s : Seen) (d : Decision) (h : IsHeld d) where
         true_both _ _ (true_both _ _ (true_both _ _ forward fa) fv) (true_both _ _ (true_both _ _ backward ba) bv),
       )
 
-  skipped_to : (last : Bool) → d.skipped ≡ true → d.slice_start ≡ s.first → (d.slice_start ≡ false → d.head_scale ≡ 0) → is_legal_skipped head s last d ≡ true → IsLegalSkipped head s last d
-  skipped_to last k start codes e =
+  skipped_to : (last : Bool) → HasPlainOrFieldMotion d → d.skipped ≡ true → d.slice_start ≡ s.first → (d.slice_start ≡ false → d.head_scale ≡ 0) → is_legal_skipped head s last d ≡ true → IsLegalSkipped head s last d
+  skipped_to last m k start codes e =
       let inside = both_true _ _ e in
       let range = both_true _ _ inside.0 in
       let takes = both_true _ _ range.0 in
@@ -135,7 +153,7 @@ module _ (head : Head) (s : Seen) (d : Decision) (h : IsHeld d) where
         not_first = first;
         not_last = (not_decides last).0 edges.1;
         allowed = allowed.1;
-        same = is_skipped k starts (codes starts) nothing.1 takes.1;
+        same = is_skipped m k starts (codes starts) nothing.1 takes.1;
         in_range = range.1;
         inside = inside.1;
       }
@@ -242,7 +260,9 @@ module _ (head : Head) (s : Seen) (last : Bool) (d : Decision) (h : IsHeld d) wh
   legal_to : is_legal head s last d ≡ true → IsLegal head s last d
   legal_to e =
       let kinds = both_true _ _ e in
-      let codes = both_true _ _ kinds.0 in
+      let moves = both_true _ _ kinds.0 in
+      let motion = (motion_decides d h).0 moves.1 in
+      let codes = both_true _ _ moves.0 in
       let dct = both_true _ _ codes.1 in
       let scales = both_true _ _ dct.0 in
       let start = (flag_decides d.slice_start s.first).0 codes.0 in
@@ -251,7 +271,8 @@ module _ (head : Head) (s : Seen) (last : Bool) (d : Decision) (h : IsHeld d) wh
         start = start;
         head_scale = (head_scale_decides d.slice_start d.head_scale).0 scales.0;
         scale = (scale_decides d.scale).0 scales.1;
-        skipped = λ p. skipped_to head s d h last p start (no_head_scale d.slice_start d.head_scale scales.0) (k.0 p);
+        motion = motion;
+        skipped = λ p. skipped_to head s d h last motion p start (no_head_scale d.slice_start d.head_scale scales.0) (k.0 p);
         intra = λ p q. intra_to head s d h (k.1 p q);
         inter = λ p q. inter_to head s.mb_x s.mb_y d h p s refl refl (k.2 p q);
         frame_dct = dct_decides.0 dct.1;
@@ -261,8 +282,9 @@ module _ (head : Head) (s : Seen) (last : Bool) (d : Decision) (h : IsHeld d) wh
 
   legal_from : IsLegal head s last d → is_legal head s last d ≡ true
   legal_from l =
-      true_both _ _ (true_both _ _ ((flag_decides d.slice_start s.first).1 l.start)
+      true_both _ _ (true_both _ _ (true_both _ _ ((flag_decides d.slice_start s.first).1 l.start)
       (true_both _ _ (true_both _ _ ((head_scale_decides d.slice_start d.head_scale).1 l.head_scale) ((scale_decides d.scale).1 l.scale)) (dct_decides.1 l.frame_dct)))
+      ((motion_decides d h).1 l.motion))
       (kind_from d.skipped d.intra skipped_test intra_test inter_test (λ p. skipped_from head s d h last (l.skipped p)) (λ p q. intra_from head s d h (l.intra p q)) (λ p q. inter_from head s.mb_x s.mb_y d h q s refl refl (l.inter p q)))
 
   pub legal_decides : Decides (is_legal head s last d) (IsLegal head s last d)

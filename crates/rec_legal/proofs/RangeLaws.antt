@@ -25,6 +25,7 @@ use Rattle.mv_heads.specs.Legal.{IsSequenceHeader, IsPictureCoding}
 use Rattle.mv_heads.specs.Headers.{sequence_header, sequence_extension, picture_header, picture_coding_extension, are_f_codes, behind_extra, frame_structure, picture_type, vector_field_bits}
 use Rattle.mv_heads.specs.SentMatrices.{has_no_zero, matrix}
 use Rattle.mv_terms.specs.Matrices.{default_matrices}
+use Rattle.mv_terms.specs.Structures.{IsOfFrame}
 use Rattle.mv_heads.specs.HeadElements.{bits, context_of, sequence, extended_sequence, further_of_sequence, head_of, head_from, extends, is_extension_of, quant_matrix_extension_id, picture_coding_extension_id, picture_spatial_scalable_extension_id, picture_temporal_scalable_extension_id, picture_of, picture, extended_picture, further_of_picture, further_picture_extension, sequence_matrices}
 use Rattle.mv_heads.proofs.FirstSizeLaws.{bind_ok, ok_is}
 use Rattle.rec_legal.proofs.OptionLemmas.{both_true}
@@ -228,7 +229,7 @@ kept_matrices before (element ∷ others) current none e =
 
 -- what in force was, and the ranges
 HasRanges : Context → PictureHead → Type 0
-HasRanges c p = (p.head.temporal < 1024) × HasLegalFCodes p.head × (p.head.dc_precision ≤ 3) × (p.head.matrices ≡ c.matrices)
+HasRanges c p = (p.head.temporal < 1024) × HasLegalFCodes p.head × (p.head.dc_precision ≤ 3) × (p.head.matrices ≡ c.matrices) × IsOfFrame p.head
 
 extended_picture_range : (c : Context) (header : PictureHeader) (elements : List (List ℕ)) (p : PictureHead) → header.temporal < 1024 → extends elements ≡ false → extended_picture c (sequence_matrices c) header elements ≡ Ok p → HasRanges c p
 unfolding extended_picture HasRanges
@@ -240,8 +241,8 @@ extended_picture_range c header (element ∷ others) p t none e =
     let same = ok_is {W = Why} (record { head = head_from c d.0 header b.0; in_force = d.0 }) p d.2 in
     let r = coding_range header.pic (bits element) b.0 b.1 in
     let kept = kept_matrices (sequence_matrices c) others d.0 (neither (is_extension_of quant_matrix_extension_id element) (extends others) none).1 d.1 in
-    subst (λ (x : PictureHead). (x.head.temporal < 1024) × HasLegalFCodes x.head × (x.head.dc_precision ≤ 3) × (x.head.matrices ≡ c.matrices)) same
-    (t, record { forward_bits = r.forward_bits; backward_bits = r.backward_bits; forward = r.forward; backward = r.backward }, r.precision, sym (ap (λ (x : InForce). x.matrices) kept))
+    subst (λ (x : PictureHead). (x.head.temporal < 1024) × HasLegalFCodes x.head × (x.head.dc_precision ≤ 3) × (x.head.matrices ≡ c.matrices) × IsOfFrame x.head) same
+    (t, record { forward_bits = r.forward_bits; backward_bits = r.backward_bits; forward = r.forward; backward = r.backward }, r.precision, sym (ap (λ (x : InForce). x.matrices) kept), record { structure = refl; not_second = refl })
 
 picture_head_range : (c : Context) (elements : List (List ℕ)) (p : PictureHead) → extends elements ≡ false → picture c (sequence_matrices c) elements ≡ Ok p → HasRanges c p
 unfolding picture
@@ -272,6 +273,7 @@ head_range c d h is none e =
     let hh : h.mb_high ≡ macroblock_rows c.progressive c.height = size.1 ∙ is.size.high in
     record {
       temporal = subst (λ (x : Head). x.temporal < 1024) same r.0;
+      frame = subst IsOfFrame same r.4;
       f_code = subst HasLegalFCodes same r.1;
       precision = subst (λ (x : Head). x.dc_precision ≤ 3) same r.2;
       size = record {

@@ -7,6 +7,7 @@ use Rattle.mv_terms.specs.declared.head.Context.{Context}
 use Rattle.mv_terms.specs.declared.head.Head.{Head}
 use Rattle.mv_terms.specs.declared.macroblock.Decision.{Decision}
 use Rattle.mv_terms.specs.Ranges.{HasLegalScales}
+use Rattle.mv_terms.specs.Decisions.{HasPlainOrFieldMotion}
 use Rattle.mv_bits.specs.Elements.{cut}
 use Rattle.mv_heads.specs.declared.sequence_header.CodedSize.{CodedSize}
 use Rattle.mv_heads.specs.Headers.{coded_size}
@@ -37,6 +38,11 @@ legal_scales head place past [] l = tt
 legal_scales head place past (d ∷ later) l =
     let at = l.0.legal in
     (record { scale = at.scale; head_scale = head_scale_small d.slice_start d.head_scale at.head_scale }, legal_scales head (place + 1) (d ∷ in_its_slice d past) later l.1)
+
+legal_motions : (head : Head) (place : ℕ) (past ds : List Decision) → AreLegalFrom head place past ds → AllByRecursion HasPlainOrFieldMotion ds
+unfolding AreLegalFrom
+legal_motions head place past [] l = tt
+legal_motions head place past (d ∷ later) l = (l.0.legal.motion, legal_motions head (place + 1) (d ∷ in_its_slice d past) later l.1)
 
 -- ---- the parts
 
@@ -99,7 +105,7 @@ module _ (size : CodedSize) (slots bytes : List ℕ) (slots_size : length slots 
         let head : head_said r.sheet r.context ≡ Some r.head = head_back r.sheet r.context r.head (record { reads = hs.head_reads; not_extended = hs.not_extended; same_type = hs.same_type; b = hs.b }) in
         let count = is.legal.size ∙ same_count r.context r.head hs.same_size (head_size r.context (cut r.sheet.head) r.head hs.head_reads) in
         let held = recursion_from_All IsHeld r.decisions is.slots_are.held in
-        let ds : decisions_said n slots ≡ Some r.decisions = ap (λ (k : ℕ). decisions_said k slots) (sym count) ∙ slots_complete written one r.decisions slots slots_small held (legal_scales r.head 0 [] r.decisions is.legal.each) is.slots_are.bytes in
+        let ds : decisions_said n slots ≡ Some r.decisions = ap (λ (k : ℕ). decisions_said k slots) (sym count) ∙ slots_complete written one r.decisions slots slots_small held (legal_motions r.head 0 [] r.decisions is.legal.each) (legal_scales r.head 0 [] r.decisions is.legal.each) is.slots_are.bytes in
         let test : can_be_coded r.sheet r.head r.decisions ≡ true = true_both _ _ (true_both _ _ ((prefix_decides r.sheet).1 hs.prefix) ((flags_decide r.sheet r.decisions).1 is.flags)) ((all_legal_decides r.head r.decisions held).1 is.legal.each) in
         ap (λ o. o >>= (λ s. context_said size s >>= (λ c. head_said s c >>= (λ h. decisions_said n slots >>= (λ d. when (can_be_coded s h d) (record_of s (drop (length bytes - 32) bytes) c h d)))))) sheet
         ∙ (ap (λ o. o >>= (λ c. head_said r.sheet c >>= (λ h. decisions_said n slots >>= (λ d. when (can_be_coded r.sheet h d) (record_of r.sheet (drop (length bytes - 32) bytes) c h d))))) context

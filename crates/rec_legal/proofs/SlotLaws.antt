@@ -9,7 +9,7 @@ use Rattle.std.proofs.lemmas.Int.{of_z-to_z, fits_signed_from_abs}
 use Rattle.std.proofs.lemmas.List.{take_at, drop_at, length-take-le, get_or-drop}
 use Rattle.std.proofs.lemmas.List.FromFn.{fill_by_all}
 use Rattle.mv_terms.specs.declared.macroblock.Decision.{Decision}
-use Rattle.mv_terms.specs.Decisions.{vector_of}
+use Rattle.mv_terms.specs.Decisions.{HasPlainOrFieldMotion, vector_of}
 use Rattle.mv_terms.specs.Ranges.{HasLegalScales}
 use Rattle.rec_slot.specs.Slot.{number_of, slot_of, IsSlot, IsSlotOf, IsHeld, WrittenIsASlot, OneDecision}
 use Rattle.rec_legal.specs.Said.{two_at, component_at, decision_at, is_slot, decision_said, decisions_said, ◌>>=◌}
@@ -94,7 +94,10 @@ y_fits bytes small (suc zero) (suc (suc r)) = zero_fits
 y_fits bytes small (suc (suc s)) r = zero_fits
 
 decision_held : (bytes : List ℕ) → AreSmall bytes → IsHeld (decision_at bytes)
-decision_held bytes small = record { selects = refl; vectors = refl; x_fits = x_fits bytes small; y_fits = y_fits bytes small }
+decision_held bytes small = record { selects = refl; vectors = refl; dual_delta = refl; x_fits = x_fits bytes small; y_fits = y_fits bytes small }
+
+decision_motion : (bytes : List ℕ) → HasPlainOrFieldMotion (decision_at bytes)
+decision_motion bytes = record { half = refl; dual = refl; dual_delta = refl }
 
 -- ---- tests
 
@@ -126,6 +129,7 @@ slot_test bytes is =
 -- what is read of a slot
 pub record IsReadOf (d : Decision) (bytes : List ℕ) : Type 0 where
   pub held : IsHeld d
+  pub motion : HasPlainOrFieldMotion d
   pub scales : HasLegalScales d
   pub same : slot_of d ≡ bytes
 
@@ -136,6 +140,7 @@ slot_sound bytes d size small e =
     let is = slot_tested bytes w.0 in
     subst (λ (x : Decision). IsReadOf x bytes) w.1 (record {
       held = decision_held bytes small;
+      motion = decision_motion bytes;
       scales = record { scale = is.scale; head_scale = is.head_scale };
       same = slot_is bytes size small is.low_nibble;
     })
@@ -145,7 +150,7 @@ module _ (written : WrittenIsASlot) (one : OneDecision) where
   unfolding decision_said
   slot_complete bytes d size small is =
       let slot : IsSlot bytes = subst IsSlot is.same (written d is.scales) in
-      let same : decision_at bytes ≡ d = one (decision_at bytes) d (decision_held bytes small) is.held (slot_is bytes size small slot.low_nibble ∙ sym is.same) in
+      let same : decision_at bytes ≡ d = one (decision_at bytes) d (decision_held bytes small) is.held (decision_motion bytes) is.motion (slot_is bytes size small slot.low_nibble ∙ sym is.same) in
       when_true (is_slot bytes) (decision_at bytes) (slot_test bytes slot) ∙ ap (λ (x : Decision). Some x) same
 
   -- what is answered of a slot, from its bytes in an array
@@ -154,7 +159,7 @@ module _ (written : WrittenIsASlot) (one : OneDecision) where
       sym (no_some (decision_said slot) (λ d e. let is = slot_sound slot d size small e in none (subst IsSlot (is.same ∙ sym same) (written d is.scales))))
 
   pub slot_some : (slot bytes : List ℕ) (d : Decision) → length slot ≡ 20 → AreSmall slot → bytes ≡ slot → IsSlotOf d bytes → IsHeld d → Some d ≡ decision_said slot
-  slot_some slot bytes d size small same is held = sym (slot_complete slot d size small (record { held = held; scales = is.scales; same = is.same_bytes ∙ same }))
+  slot_some slot bytes d size small same is held = sym (slot_complete slot d size small (record { held = held; motion = is.motion; scales = is.scales; same = is.same_bytes ∙ same }))
 
 -- ---- the laws of all slots
 
@@ -211,13 +216,13 @@ module _ (written : WrittenIsASlot) (one : OneDecision) where
   bind_is : {A B : Type 0} (o : Option A) (x : A) (f : A → Option B) → o ≡ Some x → (o >>= f) ≡ f x
   bind_is {A} {B} o x f e = ap (λ (p : Option A). p >>= f) e
 
-  pub slots_complete : (ds : List Decision) (slots : List ℕ) → AreSmall slots → AllByRecursion IsHeld ds → AllByRecursion HasLegalScales ds → flat_map slot_of ds ≡ slots → decisions_said (length ds) slots ≡ Some ds
+  pub slots_complete : (ds : List Decision) (slots : List ℕ) → AreSmall slots → AllByRecursion IsHeld ds → AllByRecursion HasPlainOrFieldMotion ds → AllByRecursion HasLegalScales ds → flat_map slot_of ds ≡ slots → decisions_said (length ds) slots ≡ Some ds
   unfolding decisions_said
-  slots_complete [] slots small held scales same = refl
-  slots_complete (d ∷ ds) slots small held scales same =
+  slots_complete [] slots small held motions scales same = refl
+  slots_complete (d ∷ ds) slots small held motions scales same =
       let front : slot_of d ≡ take 20 slots = sym (take_at (slot_of d) (flat_map slot_of ds) 20 refl) ∙ ap (λ (xs : List ℕ). take 20 xs) same in
       let behind : flat_map slot_of ds ≡ drop 20 slots = sym (drop_at (slot_of d) (flat_map slot_of ds) 20 refl) ∙ ap (λ (xs : List ℕ). drop 20 xs) same in
-      let first : decision_said (take 20 slots) ≡ Some d = slot_complete written one (take 20 slots) d (sym (ap (λ (xs : List ℕ). length xs) front)) (small_take 20 slots small) (record { held = held.0; scales = scales.0; same = front }) in
-      let others = slots_complete ds (drop 20 slots) (small_drop 20 slots small) held.1 scales.1 behind in
+      let first : decision_said (take 20 slots) ≡ Some d = slot_complete written one (take 20 slots) d (sym (ap (λ (xs : List ℕ). length xs) front)) (small_take 20 slots small) (record { held = held.0; motion = motions.0; scales = scales.0; same = front }) in
+      let others = slots_complete ds (drop 20 slots) (small_drop 20 slots small) held.1 motions.1 scales.1 behind in
       bind_is (decision_said (take 20 slots)) d (λ (x : Decision). decisions_said (length ds) (drop 20 slots) >>= (λ later. Some (x ∷ later))) first
       ∙ bind_is (decisions_said (length ds) (drop 20 slots)) ds (λ (later : List Decision). Some (d ∷ later)) others

@@ -1,6 +1,6 @@
 -- What the slots and the sheet of a frame say, read by places and tested: nobody needs to believe it, since it is proved
 -- to be the record for which the conditions of `Conditions` hold.
-use Rattle.std.specs.Prelude.{ℕ, zero, suc, ◌+◌, ◌-◌, ◌*◌, ◌/◌, ◌%◌, ◌==◌, ◌&&◌, nat_le, Bool, if◌then◌else◌, List, [], ◌∷◌, length, take, drop, replicate, codes, slice_index, Option, None, Some, Result, Ok, Err, ℤ}
+use Rattle.std.specs.Prelude.{ℕ, zero, suc, ◌+◌, ◌-◌, ◌*◌, ◌/◌, ◌%◌, ◌==◌, ◌&&◌, nat_le, Bool, false, if◌then◌else◌, List, [], ◌∷◌, length, take, drop, replicate, codes, slice_index, Option, None, Some, Result, Ok, Err, ℤ}
 use Rattle.std.specs.Int.{cast_signed, w16}
 use Rattle.std.specs.Str.{bytes_eq}
 use Rattle.mv_terms.specs.declared.status.Why.{Why}
@@ -10,7 +10,7 @@ use Rattle.mv_terms.specs.declared.head.Context.{Context}
 use Rattle.mv_terms.specs.declared.head.Head.{Head}
 use Rattle.mv_terms.specs.declared.macroblock.Vector.{Vector}
 use Rattle.mv_terms.specs.declared.macroblock.Decision.{Decision}
-use Rattle.mv_terms.specs.Decisions.{vector}
+use Rattle.mv_terms.specs.Decisions.{no_dmvector, vector}
 use Rattle.mv_bits.specs.Elements.{cut}
 use Rattle.mv_heads.specs.declared.sequence_header.CodedSize.{CodedSize}
 use Rattle.mv_heads.specs.Headers.{coded_size, is_same_size}
@@ -90,6 +90,8 @@ decision_at bytes = record {
   backward = bit_at bytes 0 4;
   field_dct = bit_at bytes 0 2;
   field_motion = bit_at bytes 0 1;
+  half = false;
+  dual = false;
   scale = slice_index bytes 1;
   selects =
       (bit_at bytes 2 128 ∷ bit_at bytes 2 64 ∷ [])
@@ -97,6 +99,7 @@ decision_at bytes = record {
   vectors =
       (vector_at bytes 3 ∷ vector_at bytes 7 ∷ [])
       ∷ (vector_at bytes 11 ∷ vector_at bytes 15 ∷ []) ∷ [];
+  dual_delta = no_dmvector;
   head_scale = slice_index bytes 19;
 }
 

@@ -10,7 +10,7 @@ use Rattle.mv_terms.specs.declared.head.Head.{Head}
 use Rattle.mv_terms.specs.declared.macroblock.Vector.{Vector}
 use Rattle.mv_terms.specs.declared.macroblock.Decision.{Decision}
 use Rattle.mv_terms.specs.PicTypes.{is_b}
-use Rattle.mv_terms.specs.Decisions.{still, vector, vector_of, select_of}
+use Rattle.mv_terms.specs.Decisions.{dmvector_of, still, vector, vector_of, select_of}
 use Rattle.mv_bits.specs.Elements.{cut}
 use Rattle.mv_heads.specs.Headers.{is_same_flag}
 use Rattle.mv_heads.specs.HeadElements.{extends, is_prefix, sequence_bytes}
@@ -171,10 +171,16 @@ has_legal_codes head d =
     is_head_scale d.slice_start d.head_scale && is_scale_code d.scale
     && (not head.frame_only || not d.field_dct)
 
+-- neither 16x8 nor dual prime, and so without a dmvector
+abbrev pub has_plain_or_field_motion : Decision → Bool
+has_plain_or_field_motion d =
+    not d.half && not d.dual
+    && (int_eq (dmvector_of d 0) (pos 0) && int_eq (dmvector_of d 1) (pos 0))
+
 abbrev pub is_legal : Head → Seen → Bool → Decision → Bool
 is_legal head seen last d =
     is_same_flag d.slice_start seen.first && has_legal_codes head d
-    && is_legal_kind head seen last d
+    && has_plain_or_field_motion d && is_legal_kind head seen last d
 
 -- ---- a picture
 

@@ -12,8 +12,6 @@ mod laws;
 mod macroblock;
 mod parts;
 mod record;
-#[cfg(test)]
-mod tests;
 mod vectors;
 
 pub use laws::{coded_law, found_law};

@@ -3,7 +3,7 @@ ghost use Rattle.std.specs.Prelude.{◌≡◌, ◌<◌, ◌≤◌, ◌==◌, ◌
 ghost use Rattle.mv_heads.specs.Headers.{is_same_flag};
 ghost use Rattle.mv_terms.specs.PicTypes.{is_b};
 ghost use Rattle.mv_vectors.specs.Skipped.{may_skip};
-ghost use Rattle.rec_legal.specs.Tests.{can_be_skipped, has_both_legal, has_legal_codes, has_legal_directions, has_legal_motion, has_no_motion, is_head_scale, is_legal, is_legal_inter, is_legal_intra, is_legal_kind, is_legal_skipped, is_scale_code, says_nothing, seen_by, takes_both_over};
+ghost use Rattle.rec_legal.specs.Tests.{can_be_skipped, has_both_legal, has_legal_codes, has_legal_directions, has_legal_motion, has_no_motion, has_plain_or_field_motion, is_head_scale, is_legal, is_legal_inter, is_legal_intra, is_legal_kind, is_legal_skipped, is_scale_code, says_nothing, seen_by, takes_both_over};
 ghost use Rattle.rec_legal.specs.Steps.{HasFewBits};
 
 use crate::decisions::Past;
@@ -26,6 +26,7 @@ pub(crate) fn is_legal(
 {
     is_same_flag(d.slice_start, past.first)
         && has_legal_codes(head, d)
+        && has_plain_or_field_motion(d)
         && is_legal_kind(head, past, mb_x, mb_y, last, d)
 }
 
@@ -36,6 +37,13 @@ fn has_legal_codes(head: &Head, d: &Decision) -> bool
     is_head_scale(d.slice_start, d.head_scale)
         && is_scale_code(d.scale)
         && (!head.frame_only || !d.field_dct)
+}
+
+/// Whether the motion is neither 16x8 nor dual prime, and there is no dmvector.
+fn has_plain_or_field_motion(d: &Decision) -> bool
+    ensures { result ≡ has_plain_or_field_motion d.now }
+{
+    !d.half && !d.dual && (d.dual_delta[0] == 0 && d.dual_delta[1] == 0)
 }
 
 fn is_head_scale(start: bool, head_scale: u8) -> bool

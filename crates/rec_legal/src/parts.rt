@@ -63,7 +63,7 @@ fn read_decision(slot: &[u8]) -> Option<Decision>
     }
 }
 
-/// A decision in memory has two selects and two vectors in each direction, with components of 16 bits.
+/// A decision in memory has two selects and two vectors in each direction, with components of 16 bits, and one dmvector.
 fn is_held(decision: &Decision)
     ensures { IsHeld decision.now }
 {

@@ -9,8 +9,6 @@ mod parts;
 mod reader;
 mod room;
 mod summary;
-#[cfg(test)]
-mod tests;
 
 pub use laws::right_law;
 pub use reader::{Found, RecordReader};

@@ -12,6 +12,3 @@ pub use laws::sheet_law;
 pub use read::read_sheet;
 pub use sheet::{Sheet, fits};
 pub use write::write_sheet;
-
-#[cfg(test)]
-mod tests;

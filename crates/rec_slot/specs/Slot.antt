@@ -3,7 +3,7 @@ use Rattle.std.specs.Prelude.{◌≡◌, ℕ, ◌+◌, ◌/◌, ◌%◌, ◌^◌
 use Rattle.std.specs.Int.{cast_unsigned, w16}
 use Rattle.mv_terms.specs.declared.macroblock.Vector.{Vector}
 use Rattle.mv_terms.specs.declared.macroblock.Decision.{Decision}
-use Rattle.mv_terms.specs.Decisions.{select_of, vector_of}
+use Rattle.mv_terms.specs.Decisions.{HasPlainOrFieldMotion, dmvector_of, select_of, vector_of}
 use Rattle.mv_terms.specs.Ranges.{HasLegalScales, IsScaleCode}
 
 -- the number that these bits are, the highest one first
@@ -29,8 +29,8 @@ vector_bytes v =
     cast_unsigned w16 v.x / 256 ∷ cast_unsigned w16 v.x % 256
     ∷ cast_unsigned w16 v.y / 256 ∷ cast_unsigned w16 v.y % 256 ∷ []
 
--- the slot: the kind, the scale code in force, the selects, the vectors in the order of the selects, and the scale
--- code of the slice header
+-- The slot of a decision of plain or field motion: the kind, the scale code in force, the selects, the vectors in the order of the selects, and the scale
+-- code of the slice header.
 abbrev pub slot_of : Decision → List ℕ
 slot_of d =
     number_of (kind_bits d) ∷ d.scale ∷ number_of (select_bits d)
@@ -46,14 +46,17 @@ pub record IsSlot (bytes : List ℕ) : Type 0 where
 -- the bytes are the slot of this decision
 pub record IsSlotOf (d : Decision) (bytes : List ℕ) : Type 0 where
   pub same_bytes : slot_of d ≡ bytes
+  pub motion : HasPlainOrFieldMotion d
   pub scales : HasLegalScales d
 
--- a decision as a program holds it: two selects and two vectors in each direction, with components of 16 bits
+-- a decision as a program holds it: two selects and two vectors in each direction, with components of 16 bits, and one
+-- dmvector
 pub record IsHeld (d : Decision) : Type 0 where
   pub selects : d.selects
       ≡ (select_of d 0 0 ∷ select_of d 0 1 ∷ []) ∷ (select_of d 1 0 ∷ select_of d 1 1 ∷ []) ∷ []
   pub vectors : d.vectors
       ≡ (vector_of d 0 0 ∷ vector_of d 0 1 ∷ []) ∷ (vector_of d 1 0 ∷ vector_of d 1 1 ∷ []) ∷ []
+  pub dual_delta : d.dual_delta ≡ dmvector_of d 0 ∷ dmvector_of d 1 ∷ []
   pub x_fits : (s r : ℕ) → FitsSigned w16 (vector_of d s r).x
   pub y_fits : (s r : ℕ) → FitsSigned w16 (vector_of d s r).y
 
@@ -61,6 +64,7 @@ pub record IsHeld (d : Decision) : Type 0 where
 abbrev pub WrittenIsASlot : Type 0
 WrittenIsASlot = (d : Decision) → HasLegalScales d → IsSlot (slot_of d)
 
--- a slot is of one decision alone
+-- a slot is of one decision of plain or field motion alone
 abbrev pub OneDecision : Type 0
-OneDecision = (d e : Decision) → IsHeld d → IsHeld e → slot_of d ≡ slot_of e → d ≡ e
+OneDecision = (d e : Decision) → IsHeld d → IsHeld e → HasPlainOrFieldMotion d
+    → HasPlainOrFieldMotion e → slot_of d ≡ slot_of e → d ≡ e

@@ -12,6 +12,3 @@ pub use directions::uses_forward;
 pub use laws::slot_law;
 pub use read::read_slot;
 pub use write::slot_bytes;
-
-#[cfg(test)]
-mod tests;

@@ -6,7 +6,8 @@ ghost use Rattle.rec_slot.specs.Slot.{IsSlot, IsSlotOf};
 use mv_terms::{Decision, Vector};
 
 /// The decision that these bytes are the slot of. There is none where the low nibble of byte 2 isn't 0, byte 1 isn't
-/// a scale code or byte 19 is above 31. Whether the decision may stand in its picture isn't looked at.
+/// a scale code or byte 19 is above 31. Its motion is plain or of fields. Whether it may stand in its picture isn't
+/// looked at.
 pub fn read_slot(bytes: &[u8; 20]) -> Option<Decision>
     ensures { MatchOption result (¬ IsSlot bytes.now) (λ d. IsSlotOf d bytes.now) }
 {
@@ -22,6 +23,8 @@ pub fn read_slot(bytes: &[u8; 20]) -> Option<Decision>
         backward: is_set(bytes[0], 4),
         field_dct: is_set(bytes[0], 2),
         field_motion: is_set(bytes[0], 1),
+        half: false,
+        dual: false,
         scale: bytes[1],
         selects: [
             [is_set(bytes[2], 128), is_set(bytes[2], 64)],
@@ -31,6 +34,7 @@ pub fn read_slot(bytes: &[u8; 20]) -> Option<Decision>
             [vector_at(bytes, 3), vector_at(bytes, 7)],
             [vector_at(bytes, 11), vector_at(bytes, 15)],
         ],
+        dual_delta: [0; 2],
         head_scale: bytes[19],
     })
 }

@@ -5,7 +5,7 @@ ghost use Rattle.rec_slot.specs.Slot.{slot_of, number_of, kind_bits, select_bits
 
 use mv_terms::Decision;
 
-/// The slot of a decision.
+/// The slot of a decision of plain or field motion: nothing in it says another motion.
 pub fn slot_bytes(decision: &Decision) -> [u8; 20]
     ensures { result ≡ slot_of decision.now }
 {

@@ -2,4 +2,3 @@ pub mod Words
 pub mod Commands
 pub mod Outcomes
 pub mod Said
-pub mod Complete

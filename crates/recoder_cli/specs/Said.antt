@@ -1,14 +1,14 @@
 -- What is said of a run.
-use Rattle.std.specs.Prelude.{◌⊎◌, ℕ, List, Option}
+use Rattle.std.specs.Prelude.{◌⊎◌, ℕ, List}
 use Rattle.std.specs.Io.KnownBytes.{Appends}
 use Rattle.mv_ends.specs.Causes.{FailedWrite}
+use Rattle.mv_ends.specs.Kept.{KeepsSink}
 use Rattle.mv_ends.specs.Moves.{AppendsFront}
+use Rattle.mv_ends.specs.Told.{SinkTold}
 
--- The whole line was said; or a write failed, and only the front of the line before it was. What the sink tells is given:
--- the bytes that it took, its count of faults, and how many bytes it surely takes.
-abbrev pub IsSaid : {M : Type 0} → (M → Option (List ℕ)) → (M → ℕ) → (M → ℕ) → M → M → List ℕ
-    → Type 0
-IsSaid written faults room old new line =
-    Appends (written old) (written new) line
-    ⊎ (AppendsFront (written old) (written new) line
-    × FailedWrite (faults old) (faults new) (room old) (written old) (written new))
+-- What was said of this line.
+pub record IsSaid (old new : SinkTold) (line : List ℕ) : Type 0 where
+  -- The whole line was; or a write failed, and only the front of the line before it was.
+  pub said : Appends old.written new.written line
+      ⊎ (AppendsFront old.written new.written line × FailedWrite old new)
+  pub keeps : KeepsSink old new

@@ -7,7 +7,7 @@ ghost use Rattle.mv_ends.specs.Complete.{IsComplete};
 ghost use Rattle.mv_ends.specs.Clean.{taken_by, room_of, inputs_in};
 ghost use Rattle.mv_terms.specs.Texts.{line_of};
 ghost use Rattle.recoder_cli.specs.Words.{form_of, texts};
-ghost use Rattle.recoder_cli.specs.Outcomes.{IsOutcomeOf};
+ghost use Rattle.recoder_cli.specs.Outcomes.{command_of};
 
 use crate::run;
 use mv_ends::{CleanShelf, CleanSink};
@@ -24,10 +24,10 @@ pub fn run_clean(
     say: &mut CleanSink,
 ) -> Status
     requires { ForSome (form_of (texts words.now)) (λ form. (outcome : Outcome Status)
-        → IsOutcomeOf form (inputs_in shelf.old) outcome
+        → (command_of form).is_outcome (inputs_in shelf.old) outcome
         → length (taken_by out.old) + length outcome.output ≤ room_of out.old) }
     ensures ends { ForSome (form_of (texts words.now)) (λ form. (outcome : Outcome Status)
-        × IsOutcomeOf form (inputs_in shelf.old) outcome
+        × (command_of form).is_outcome (inputs_in shelf.old) outcome
         × IsComplete outcome result (Some (taken_by out.old)) (Some (taken_by out.new))) }
     ensures words { (result ≡ Status.Words) ↔ (form_of (texts words.now) ≡ None) }
     ensures said { length (taken_by say.old) + length (line_of result) ≤ room_of say.old

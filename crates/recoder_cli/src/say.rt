@@ -1,6 +1,5 @@
 //! Says the line of a status, without taking memory.
 ghost use Rattle.std.specs.Prelude.{◌≡◌, ◌++◌};
-ghost use Rattle.mv_ends.specs.Causes.{Counts};
 ghost use Rattle.mv_ends.specs.Moves.{joined};
 ghost use Rattle.mv_terms.specs.Texts.{line_of, frame_fault_text, line_fault_text};
 ghost use Rattle.recoder_cli.specs.Said.{IsSaid};
@@ -11,10 +10,7 @@ use mv_terms::{FrameFault, LineFault, Status, Why};
 
 /// Says the line of a status, as far as no write fails.
 pub fn tell<M: Sink>(say: &mut M, status: &Status)
-    ensures said { IsSaid M.written M.faults M.room say.old say.new (line_of status.now) }
-    ensures same_room { M.room say.new ≡ M.room say.old }
-    ensures count { Counts (M.faults say.old) (M.faults say.new)
-        (M.room say.old) (M.written say.old) (M.written say.new) }
+    ensures { IsSaid (M.told say.old) (M.told say.new) (line_of status.now) }
 {
     match status {
         Status::Done => say_all(say, &[]),
@@ -31,10 +27,7 @@ pub fn tell<M: Sink>(say: &mut M, status: &Status)
 
 /// Says the pieces, as far as no write fails.
 fn say_all<M: Sink>(say: &mut M, pieces: &[&[u8]])
-    ensures said { IsSaid M.written M.faults M.room say.old say.new (joined pieces.now) }
-    ensures same_room { M.room say.new ≡ M.room say.old }
-    ensures count { Counts (M.faults say.old) (M.faults say.new)
-        (M.room say.old) (M.written say.old) (M.written say.new) }
+    ensures { IsSaid (M.told say.old) (M.told say.new) (joined pieces.now) }
 {
     let _ = send_all(say, pieces);
 }
@@ -67,11 +60,8 @@ fn line_pieces<'a>(fault: &LineFault, digits: &'a mut Buffer) -> (&'a str, &'a s
 
 /// Says a frame file's fault.
 fn say_frames<M: Sink>(say: &mut M, fault: &FrameFault)
-    ensures said { IsSaid M.written M.faults M.room say.old say.new
+    ensures { IsSaid (M.told say.old) (M.told say.new)
         (line_of (Status.Frames fault.now)) }
-    ensures same_room { M.room say.new ≡ M.room say.old }
-    ensures count { Counts (M.faults say.old) (M.faults say.new)
-        (M.room say.old) (M.written say.old) (M.written say.new) }
 {
     let mut digits = Buffer::new();
     let (before, number, after) = frame_pieces(fault, &mut digits);
@@ -88,11 +78,8 @@ fn say_frames<M: Sink>(say: &mut M, fault: &FrameFault)
 
 /// Says a reason, behind the number of its unit.
 fn say_unit<M: Sink>(say: &mut M, unit: u64, why: &Why)
-    ensures said { IsSaid M.written M.faults M.room say.old say.new
+    ensures { IsSaid (M.told say.old) (M.told say.new)
         (line_of (Status.Unit unit why.now)) }
-    ensures same_room { M.room say.new ≡ M.room say.old }
-    ensures count { Counts (M.faults say.old) (M.faults say.new)
-        (M.room say.old) (M.written say.old) (M.written say.new) }
 {
     let mut digits = Buffer::new();
     let number = digits.format(unit);
@@ -116,11 +103,8 @@ fn say_unit<M: Sink>(say: &mut M, unit: u64, why: &Why)
 
 /// Says a line's fault, behind the number of the line.
 fn say_line<M: Sink>(say: &mut M, line: u32, fault: &LineFault)
-    ensures said { IsSaid M.written M.faults M.room say.old say.new
+    ensures { IsSaid (M.told say.old) (M.told say.new)
         (line_of (Status.Line line fault.now)) }
-    ensures same_room { M.room say.new ≡ M.room say.old }
-    ensures count { Counts (M.faults say.old) (M.faults say.new)
-        (M.room say.old) (M.written say.old) (M.written say.new) }
 {
     let mut digits = Buffer::new();
     let mut more = Buffer::new();

@@ -1,4 +1,3 @@
-pub mod ShelfLemmas
 pub mod AheadLemmas
 pub mod LineLemmas
 pub mod NextLemmas

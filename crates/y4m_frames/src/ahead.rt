@@ -3,8 +3,8 @@ ghost use Rattle.std.specs.Prelude.{◌≡◌, ◌+◌, ◌-◌, ◌<◌, ◌≤
 ghost use Rattle.std.specs.Io.KnownBytes.{Consumes, IsAtEnd, Keeps, prepend_known};
 ghost use Rattle.y4m_frames.specs.Lines.{line_within};
 ghost use Rattle.y4m_frames.specs.Reading.{TakesFewer};
-ghost use Rattle.mv_ends.specs.Causes.{RoseForSelected};
-ghost use Rattle.mv_ends.specs.Shelves.{KeepsShelf};
+ghost use Rattle.mv_ends.specs.Causes.{FailedRead};
+ghost use Rattle.mv_ends.specs.Kept.{KeepsShelf};
 
 use memchr::memchr;
 use mv_ends::{Failed, Shelf};
@@ -74,17 +74,16 @@ impl Ahead {
     /// Reads more; nothing where none is left.
     pub(crate) fn refill<S: Shelf>(&mut self, shelf: &mut S) -> Result<usize, Failed>
         requires { length self.old < 65536 }
-        ensures same { Consumes (prepend_known self.old (S.rest shelf.old))
-            (prepend_known self.new (S.rest shelf.new)) [] }
+        ensures same { Consumes (prepend_known self.old (S.told shelf.old).rest)
+            (prepend_known self.new (S.told shelf.new).rest) [] }
         ensures more { IfOk result (λ n. length self.new ≡ length self.old + n) }
-        ensures end { IfOk result (λ n. n ≡ 0 → IsAtEnd (S.rest shelf.new)) }
+        ensures end { IfOk result (λ n. n ≡ 0 → IsAtEnd (S.told shelf.new).rest) }
         ensures none { IfOk result (λ n. n ≡ 0 → self.new ≡ self.old) }
         ensures kept { OnErr result (self.new ≡ self.old) }
         ensures most { length self.new ≤ 65536 }
-        ensures failed { OnErr result (RoseForSelected (S.selected shelf.old)
-            (S.read_faults shelf.old) (S.read_faults shelf.new)) }
-        ensures chosen { S.selected shelf.new ≡ S.selected shelf.old }
-        ensures keeps { KeepsShelf S.named S.open_faults S.read_faults shelf.old shelf.new }
+        ensures failed { OnErr result (FailedRead (S.told shelf.old) (S.told shelf.new)) }
+        ensures chosen { (S.told shelf.new).selected ≡ (S.told shelf.old).selected }
+        ensures keeps { KeepsShelf (S.told shelf.old) (S.told shelf.new) }
     {
         let held = to_front(&mut self.store, self.at, self.end);
         self.at = 0;
@@ -98,26 +97,25 @@ impl Ahead {
 impl Ahead {
     /// Reads until a line feed is among the first bytes, as many as `most`, or these are there, or
     /// no more is left. Says how many bytes stand before the line feed.
-    #[tactic(auto, using(crate::proofs::ShelfLemmas::keeps_trans, crate::proofs::ShelfLemmas::keeps_refl))]
+    #[tactic(auto, using(mv_ends::proofs::Known::keeps_shelf_trans, mv_ends::proofs::Known::keeps_shelf_refl))]
     pub(crate) fn line<S: Shelf>(
         &mut self,
         shelf: &mut S,
         most: usize,
     ) -> Result<Option<usize>, Failed>
         requires { most ≤ 65536 }
-        ensures same { Consumes (prepend_known self.old (S.rest shelf.old))
-            (prepend_known self.new (S.rest shelf.new)) [] }
+        ensures same { Consumes (prepend_known self.old (S.told shelf.old).rest)
+            (prepend_known self.new (S.told shelf.new).rest) [] }
         ensures found { IfOk result (λ found. line_within most self.new ≡ found) }
         ensures within { IfOk result (λ found. IfSome found
             (λ n. (n < most) × (n < length self.new))) }
         ensures none { OnErr result (line_within most self.new ≡ None) }
-        ensures all { IfOk result (λ found. IfNone found ((most ≤ length self.new) ⊎ IsAtEnd (S.rest
-            shelf.new))) }
+        ensures all { IfOk result (λ found. IfNone found
+            ((most ≤ length self.new) ⊎ IsAtEnd (S.told shelf.new).rest)) }
         ensures most { length self.new ≤ 65536 }
-        ensures failed { OnErr result (RoseForSelected (S.selected shelf.old)
-            (S.read_faults shelf.old) (S.read_faults shelf.new)) }
-        ensures chosen { S.selected shelf.new ≡ S.selected shelf.old }
-        ensures keeps { KeepsShelf S.named S.open_faults S.read_faults shelf.old shelf.new }
+        ensures failed { OnErr result (FailedRead (S.told shelf.old) (S.told shelf.new)) }
+        ensures chosen { (S.told shelf.new).selected ≡ (S.told shelf.old).selected }
+        ensures keeps { KeepsShelf (S.told shelf.old) (S.told shelf.new) }
     {
         'reads: loop {
             let found = line_end(self.bytes(), most);
@@ -132,20 +130,19 @@ impl Ahead {
     }
 
     /// Takes as many bytes as the buffer holds, or all that are left. Says how many.
-    #[tactic(auto, using(crate::proofs::ShelfLemmas::keeps_refl))]
+    #[tactic(auto, using(mv_ends::proofs::Known::keeps_shelf_refl))]
     pub(crate) fn fill<S: Shelf>(&mut self, shelf: &mut S, to: &mut [u8]) -> Result<usize, Failed>
         ensures within { IfOk result (λ n. n ≤ length to.old) }
-        ensures read { IfOk result (λ n. Consumes (prepend_known self.old (S.rest shelf.old))
-            (prepend_known self.new (S.rest shelf.new)) (take n to.new)) }
-        ensures end { IfOk result (λ n. n < length to.old → IsAtEnd (prepend_known self.new (S.rest
-            shelf.new))) }
+        ensures read { IfOk result (λ n. Consumes (prepend_known self.old (S.told shelf.old).rest)
+            (prepend_known self.new (S.told shelf.new).rest) (take n to.new)) }
+        ensures end { IfOk result (λ n. n < length to.old
+            → IsAtEnd (prepend_known self.new (S.told shelf.new).rest)) }
         ensures part { OnErr result (TakesFewer (length to.old)
-            (prepend_known self.old (S.rest shelf.old)) (S.rest shelf.new)) }
+            (prepend_known self.old (S.told shelf.old).rest) (S.told shelf.new).rest) }
         ensures less { length self.new ≤ length self.old }
-        ensures failed { OnErr result (RoseForSelected (S.selected shelf.old)
-            (S.read_faults shelf.old) (S.read_faults shelf.new)) }
-        ensures chosen { S.selected shelf.new ≡ S.selected shelf.old }
-        ensures keeps { KeepsShelf S.named S.open_faults S.read_faults shelf.old shelf.new }
+        ensures failed { OnErr result (FailedRead (S.told shelf.old) (S.told shelf.new)) }
+        ensures chosen { (S.told shelf.new).selected ≡ (S.told shelf.old).selected }
+        ensures keeps { KeepsShelf (S.told shelf.old) (S.told shelf.new) }
     {
         let given = self.give(to);
         if given == to.len() {
@@ -180,14 +177,13 @@ fn read_behind<S: Shelf>(shelf: &mut S, store: &mut [u8], held: usize) -> Result
     requires { held < length store.old }
     ensures front { take held store.new ≡ take held store.old }
     ensures within { IfOk result (λ n. held + n ≤ length store.old) }
-    ensures read { IfOk result (λ n. Consumes (S.rest shelf.old) (S.rest shelf.new)
+    ensures read { IfOk result (λ n. Consumes (S.told shelf.old).rest (S.told shelf.new).rest
         (take n (drop held store.new))) }
-    ensures end { IfOk result (λ n. n ≡ 0 → IsAtEnd (S.rest shelf.new)) }
-    ensures kept { OnErr result (Keeps (S.rest shelf.old) (S.rest shelf.new)) }
-    ensures failed { OnErr result (RoseForSelected (S.selected shelf.old) (S.read_faults shelf.old)
-        (S.read_faults shelf.new)) }
-    ensures chosen { S.selected shelf.new ≡ S.selected shelf.old }
-    ensures keeps { KeepsShelf S.named S.open_faults S.read_faults shelf.old shelf.new }
+    ensures end { IfOk result (λ n. n ≡ 0 → IsAtEnd (S.told shelf.new).rest) }
+    ensures kept { OnErr result (Keeps (S.told shelf.old).rest (S.told shelf.new).rest) }
+    ensures failed { OnErr result (FailedRead (S.told shelf.old) (S.told shelf.new)) }
+    ensures chosen { (S.told shelf.new).selected ≡ (S.told shelf.old).selected }
+    ensures keeps { KeepsShelf (S.told shelf.old) (S.told shelf.new) }
 {
     let end = held + (store.len() - held).min(AHEAD);
     shelf.read(&mut store[held..end])
@@ -195,20 +191,19 @@ fn read_behind<S: Shelf>(shelf: &mut S, store: &mut [u8], held: usize) -> Result
 
 /// Reads into a buffer, behind its first bytes, until it is full or no more is left. Says how many
 /// bytes it has then.
-#[tactic(auto, using(crate::proofs::ShelfLemmas::keeps_refl))]
+#[tactic(auto, using(mv_ends::proofs::Known::keeps_shelf_refl))]
 pub fn read_all<S: Shelf>(shelf: &mut S, to: &mut [u8], from: usize) -> Result<usize, Failed>
     requires { from ≤ length to.old }
     ensures front { OnOk result (take from to.new ≡ take from to.old) }
     ensures within { IfOk result (λ n. (from ≤ n) × (n ≤ length to.old)) }
-    ensures read { IfOk result (λ n. Consumes (S.rest shelf.old) (S.rest shelf.new)
+    ensures read { IfOk result (λ n. Consumes (S.told shelf.old).rest (S.told shelf.new).rest
         (slice_range to.new from n)) }
-    ensures end { IfOk result (λ n. n < length to.old → IsAtEnd (S.rest shelf.new)) }
-    ensures part { OnErr result (TakesFewer (length to.old - from) (S.rest shelf.old)
-        (S.rest shelf.new)) }
-    ensures failed { OnErr result (RoseForSelected (S.selected shelf.old) (S.read_faults shelf.old)
-        (S.read_faults shelf.new)) }
-    ensures chosen { S.selected shelf.new ≡ S.selected shelf.old }
-    ensures keeps { KeepsShelf S.named S.open_faults S.read_faults shelf.old shelf.new }
+    ensures end { IfOk result (λ n. n < length to.old → IsAtEnd (S.told shelf.new).rest) }
+    ensures part { OnErr result (TakesFewer (length to.old - from) (S.told shelf.old).rest
+        (S.told shelf.new).rest) }
+    ensures failed { OnErr result (FailedRead (S.told shelf.old) (S.told shelf.new)) }
+    ensures chosen { (S.told shelf.new).selected ≡ (S.told shelf.old).selected }
+    ensures keeps { KeepsShelf (S.told shelf.old) (S.told shelf.new) }
 {
     let mut filled = from;
     'reads: while filled < to.len() {

@@ -2,8 +2,8 @@
 ghost use Rattle.std.specs.Prelude.{◌≡◌, ◌≢◌, Err, ◌+◌, ◌-◌, ◌*◌, ◌<◌, ◌≤◌, ◌^◌, ℕ, List, [], ◌++◌, length, take, drop, min, IfOk, IfNone, IfSome, OnOk, OnErr, IsErrOf};
 ghost use Rattle.std.specs.Option.{ForSome};
 ghost use Rattle.std.specs.Io.KnownBytes.{Consumes, IsAtEnd, prepend_known};
-ghost use Rattle.mv_ends.specs.Causes.{RoseForSelected};
-ghost use Rattle.mv_ends.specs.Shelves.{KeepsShelf};
+ghost use Rattle.mv_ends.specs.Causes.{FailedRead};
+ghost use Rattle.mv_ends.specs.Kept.{KeepsShelf};
 ghost use Rattle.y4m_frames.specs.Frames.{is_frame_line, are_samples};
 ghost use Rattle.y4m_frames.specs.Reading.{TakesFewer};
 ghost use Rattle.y4m_frames.specs.Steps.{TakesLine, LineTells, StopsInLine, TakesSamples, SamplesTell, TakesFrame, FrameTells, StopsShort};
@@ -15,7 +15,7 @@ use mv_terms::FrameFault;
 
 /// Takes a frame, where so many bytes may belong to the file, and says how many bytes it has, with
 /// its line; None at the end.
-#[tactic(auto, using(crate::proofs::ShelfLemmas::keeps_trans))]
+#[tactic(auto, using(mv_ends::proofs::Known::keeps_shelf_trans))]
 pub(crate) fn take_frame<S: Shelf>(
     ahead: &mut Ahead,
     shelf: &mut S,
@@ -25,23 +25,22 @@ pub(crate) fn take_frame<S: Shelf>(
 ) -> Result<Option<u64>, Halt>
     ensures frame { IfOk result (λ found. IfSome found
         (λ taken. TakesFrame taken (length samples.old) room
-        (prepend_known ahead.old (S.rest shelf.old)) (prepend_known ahead.new (S.rest shelf.new))
-        samples.new)) }
+        (prepend_known ahead.old (S.told shelf.old).rest)
+        (prepend_known ahead.new (S.told shelf.new).rest) samples.new)) }
     ensures ends { IfOk result (λ found. IfNone found
-        (Consumes (prepend_known ahead.old (S.rest shelf.old))
-        (prepend_known ahead.new (S.rest shelf.new)) [])) }
-    ensures at_end { IfOk result (λ found. IfNone found (IsAtEnd (S.rest shelf.new))) }
-    ensures told { ForSome (prepend_known ahead.old (S.rest shelf.old)) (λ s. FrameTells (length
-        samples.old) count room s result) }
+        (Consumes (prepend_known ahead.old (S.told shelf.old).rest)
+        (prepend_known ahead.new (S.told shelf.new).rest) [])) }
+    ensures at_end { IfOk result (λ found. IfNone found (IsAtEnd (S.told shelf.new).rest)) }
+    ensures told { ForSome (prepend_known ahead.old (S.told shelf.old).rest) (λ s.
+        FrameTells (length samples.old) count room s result) }
     ensures part { IsErrOf result Halt.Read → StopsShort (length samples.old) count room
-        (prepend_known ahead.old (S.rest shelf.old)) (S.rest shelf.new) }
+        (prepend_known ahead.old (S.told shelf.old).rest) (S.told shelf.new).rest }
     ensures most { length ahead.new ≤ 65536 }
     ensures less { IfOk result (λ found. IfSome found (λ _. length ahead.new < 65536)) }
     ensures memory { result ≢ Err Halt.NoMemory }
-    ensures failed { IsErrOf result Halt.Read → RoseForSelected (S.selected shelf.old)
-        (S.read_faults shelf.old) (S.read_faults shelf.new) }
-    ensures chosen { S.selected shelf.new ≡ S.selected shelf.old }
-    ensures keeps { KeepsShelf S.named S.open_faults S.read_faults shelf.old shelf.new }
+    ensures failed { IsErrOf result Halt.Read → FailedRead (S.told shelf.old) (S.told shelf.new) }
+    ensures chosen { (S.told shelf.new).selected ≡ (S.told shelf.old).selected }
+    ensures keeps { KeepsShelf (S.told shelf.old) (S.told shelf.new) }
 {
     let Some(line) = take_line(ahead, shelf, count, room)? else {
         return Ok(None);
@@ -85,23 +84,22 @@ fn take_line<S: Shelf>(
     room: u64,
 ) -> Result<Option<u64>, Halt>
     ensures line { IfOk result (λ found. IfSome found
-        (λ line. TakesLine line room (prepend_known ahead.old (S.rest shelf.old))
-        (prepend_known ahead.new (S.rest shelf.new)))) }
+        (λ line. TakesLine line room (prepend_known ahead.old (S.told shelf.old).rest)
+        (prepend_known ahead.new (S.told shelf.new).rest))) }
     ensures part { IsErrOf result Halt.Read → StopsInLine
-        (prepend_known ahead.old (S.rest shelf.old)) (S.rest shelf.new) }
+        (prepend_known ahead.old (S.told shelf.old).rest) (S.told shelf.new).rest }
     ensures ends { IfOk result (λ found. IfNone found
-        (Consumes (prepend_known ahead.old (S.rest shelf.old))
-        (prepend_known ahead.new (S.rest shelf.new)) [])) }
-    ensures at_end { IfOk result (λ found. IfNone found (IsAtEnd (S.rest shelf.new))) }
-    ensures told { ForSome (prepend_known ahead.old (S.rest shelf.old))
+        (Consumes (prepend_known ahead.old (S.told shelf.old).rest)
+        (prepend_known ahead.new (S.told shelf.new).rest) [])) }
+    ensures at_end { IfOk result (λ found. IfNone found (IsAtEnd (S.told shelf.new).rest)) }
+    ensures told { ForSome (prepend_known ahead.old (S.told shelf.old).rest)
         (λ s. LineTells count room s result) }
     ensures most { length ahead.new ≤ 65536 }
     ensures less { IfOk result (λ found. IfSome found (λ _. length ahead.new < 65536)) }
     ensures memory { result ≢ Err Halt.NoMemory }
-    ensures failed { IsErrOf result Halt.Read → RoseForSelected (S.selected shelf.old)
-        (S.read_faults shelf.old) (S.read_faults shelf.new) }
-    ensures chosen { S.selected shelf.new ≡ S.selected shelf.old }
-    ensures keeps { KeepsShelf S.named S.open_faults S.read_faults shelf.old shelf.new }
+    ensures failed { IsErrOf result Halt.Read → FailedRead (S.told shelf.old) (S.told shelf.new) }
+    ensures chosen { (S.told shelf.new).selected ≡ (S.told shelf.old).selected }
+    ensures keeps { KeepsShelf (S.told shelf.old) (S.told shelf.new) }
 {
     let found = ahead.line(shelf, LINE_LIMIT)?;
     let held = ahead.bytes();
@@ -147,18 +145,18 @@ fn take_samples<S: Shelf>(
     left: u64,
     samples: &mut [u8],
 ) -> Result<(), Halt>
-    ensures samples { OnOk result (TakesSamples left (prepend_known ahead.old (S.rest shelf.old))
-        (prepend_known ahead.new (S.rest shelf.new)) samples.new) }
+    ensures samples { OnOk result (TakesSamples left
+        (prepend_known ahead.old (S.told shelf.old).rest)
+        (prepend_known ahead.new (S.told shelf.new).rest) samples.new) }
     ensures part { IsErrOf result Halt.Read → TakesFewer (min (length samples.old) (left + 1))
-        (prepend_known ahead.old (S.rest shelf.old)) (S.rest shelf.new) }
-    ensures told { ForSome (prepend_known ahead.old (S.rest shelf.old)) (λ s. SamplesTell (length
-        samples.old) count left s result) }
+        (prepend_known ahead.old (S.told shelf.old).rest) (S.told shelf.new).rest }
+    ensures told { ForSome (prepend_known ahead.old (S.told shelf.old).rest) (λ s.
+        SamplesTell (length samples.old) count left s result) }
     ensures less { length ahead.new ≤ length ahead.old }
     ensures memory { result ≢ Err Halt.NoMemory }
-    ensures failed { IsErrOf result Halt.Read → RoseForSelected (S.selected shelf.old)
-        (S.read_faults shelf.old) (S.read_faults shelf.new) }
-    ensures chosen { S.selected shelf.new ≡ S.selected shelf.old }
-    ensures keeps { KeepsShelf S.named S.open_faults S.read_faults shelf.old shelf.new }
+    ensures failed { IsErrOf result Halt.Read → FailedRead (S.told shelf.old) (S.told shelf.new) }
+    ensures chosen { (S.told shelf.new).selected ≡ (S.told shelf.old).selected }
+    ensures keeps { KeepsShelf (S.told shelf.old) (S.told shelf.new) }
 {
     let want = wanted(samples.len(), left);
     let got = ahead.fill(shelf, &mut samples[..want])?;

@@ -11,8 +11,6 @@ mod frame;
 mod halt;
 mod header;
 mod reader;
-#[cfg(test)]
-mod tests;
 mod words;
 mod write;
 

@@ -2,8 +2,8 @@
 ghost use Rattle.std.specs.Prelude.{◌≡◌, ◌≢◌, ◌+◌, ◌*◌, ◌^◌, ◌≤◌, ◌<◌, ℕ, List, [], ◌∷◌, ◌++◌, length, true, false, None, Some, Err, IfOk, IfErr, OnOk, IsErrOf, IsTrue};
 ghost use Rattle.std.specs.Option.{ForSome};
 ghost use Rattle.std.specs.Io.KnownBytes.{Consumes, IsAtEnd};
-ghost use Rattle.mv_ends.specs.Causes.{RoseForSelected};
-ghost use Rattle.mv_ends.specs.Shelves.{KeepsShelf};
+ghost use Rattle.mv_ends.specs.Causes.{FailedRead};
+ghost use Rattle.mv_ends.specs.Kept.{KeepsShelf};
 ghost use Rattle.y4m_frames.specs.declared.halt.Halt.{Halt};
 ghost use Rattle.y4m_frames.specs.declared.halt.Halt.TheVariants as halts;
 ghost use Rattle.y4m_frames.specs.Frames.{frame_len};
@@ -52,22 +52,22 @@ impl Model for FrameReader {
 impl FrameReader {
     /// A reader of the selected input of a shelf, whose header line it reads.
     pub fn start<S: Shelf>(alloc: Global, shelf: &mut S) -> Result<FrameReader, Halt>
-        ensures starts { IfOk result (λ r. Starts (S.rest shelf.old) (S.rest shelf.new) r) }
+        ensures starts { IfOk result (λ r.
+            Starts (S.told shelf.old).rest (S.told shelf.new).rest r) }
 
         // Where the shelf tells its bytes, the reader stands at the first frame of these.
-        ensures behind { IfOk result (λ r. ForSome (S.rest shelf.old)
-            (λ file. IsBehind r (S.rest shelf.new) file [])) }
+        ensures behind { IfOk result (λ r. ForSome (S.told shelf.old).rest
+            (λ file. IsBehind r (S.told shelf.new).rest file [])) }
 
         // Fewer than 65,536 bytes are read ahead of what stands behind the header line.
         ensures less { IfOk result (λ r. length r.ahead < 65536) }
 
         // Where the shelf tells its bytes, a fault is that of their header line.
-        ensures tells { ForSome (S.rest shelf.old)
+        ensures tells { ForSome (S.told shelf.old).rest
             (λ s. IfErr result (λ halt. HasNoHeader s halt)) }
-        ensures read { IsErrOf result Halt.Read → RoseForSelected (S.selected shelf.old)
-            (S.read_faults shelf.old) (S.read_faults shelf.new) }
-        ensures chosen { S.selected shelf.new ≡ S.selected shelf.old }
-        ensures keeps { KeepsShelf S.named S.open_faults S.read_faults shelf.old shelf.new }
+        ensures read { IsErrOf result Halt.Read → FailedRead (S.told shelf.old) (S.told shelf.new) }
+        ensures chosen { (S.told shelf.new).selected ≡ (S.told shelf.old).selected }
+        ensures keeps { KeepsShelf (S.told shelf.old) (S.told shelf.new) }
     {
         let mut ahead = Ahead::start(alloc)?;
         let Some(text) = ahead.line(shelf, HEADER_LIMIT)? else {
@@ -102,22 +102,23 @@ impl FrameReader {
     }
 
     /// Reads the next frame; false at the end. After an error it answers the same again.
-    #[tactic(auto, using(crate::proofs::ShelfLemmas::keeps_refl))]
+    #[tactic(auto, using(mv_ends::proofs::Known::keeps_shelf_refl))]
     pub fn next<S: Shelf>(&mut self, shelf: &mut S, frame: &mut [u8]) -> Result<bool, Halt>
         requires { length frame.old ≡ frame_len self.old.header }
         // A frame that is handed out stands in front of what was left.
         ensures hands { IfOk result (λ some. some ≡ true → Hands self.old self.new
-            (S.rest shelf.old) (S.rest shelf.new) frame.new) }
+            (S.told shelf.old).rest (S.told shelf.new).rest frame.new) }
 
         // At the end nothing is taken, and the shelf has nothing left.
         ensures ends { IfOk result (λ some. some ≡ false → Consumes
-            (left_of self.old (S.rest shelf.old)) (left_of self.new (S.rest shelf.new)) []) }
-        ensures at_end { IfOk result (λ some. some ≡ false → IsAtEnd (S.rest shelf.new)) }
+            (left_of self.old (S.told shelf.old).rest)
+            (left_of self.new (S.told shelf.new).rest) []) }
+        ensures at_end { IfOk result (λ some. some ≡ false → IsAtEnd (S.told shelf.new).rest) }
 
         // Behind the first frames of a file it answers the next one, the end, or the first fault.
         ensures behind { (file : List ℕ) (frames : List (List ℕ))
-            → IsBehind self.old (S.rest shelf.old) file frames
-            → AnswersBehind self.old self.new (S.rest shelf.new) file frames frame.new result }
+            → IsBehind self.old (S.told shelf.old).rest file frames
+            → AnswersBehind self.old self.new (S.told shelf.new).rest file frames frame.new result }
 
         // Fewer bytes may belong to the file behind each frame.
         ensures room { self.new.room ≤ self.old.room }
@@ -125,10 +126,11 @@ impl FrameReader {
 
         // Where the shelf tells its bytes: at the end, and only there, it answers false, and a
         // fault is the first one.
-        ensures tells { self.old.failed ≡ None → ForSome (left_of self.old (S.rest shelf.old)) (λ s.
+        ensures tells { self.old.failed ≡ None
+            → ForSome (left_of self.old (S.told shelf.old).rest) (λ s.
             NextTells self.old s result) }
-        ensures read { IsErrOf result Halt.Read → self.old.failed ≡ None → RoseForSelected
-            (S.selected shelf.old) (S.read_faults shelf.old) (S.read_faults shelf.new) }
+        ensures read { IsErrOf result Halt.Read → self.old.failed ≡ None
+            → FailedRead (S.told shelf.old) (S.told shelf.new) }
 
         // At most 65,536 bytes are read ahead, and fewer behind a frame that was handed out.
         ensures most { self.old.failed ≡ None → length self.new.ahead ≤ 65536 }
@@ -138,11 +140,11 @@ impl FrameReader {
         // After an error it answers the same again.
         ensures stays { IfErr result (λ halt. self.new.failed ≡ Some halt) }
         ensures again { (halt : Halt) → self.old.failed ≡ Some halt → (result ≡ Err halt)
-            × (self.new ≡ self.old) × (S.rest shelf.new ≡ S.rest shelf.old) }
+            × (self.new ≡ self.old) × ((S.told shelf.new).rest ≡ (S.told shelf.old).rest) }
         ensures runs { OnOk result (self.new.failed ≡ None) }
         ensures header { (self.new.header ≡ self.old.header) × (self.new.line ≡ self.old.line) }
-        ensures chosen { S.selected shelf.new ≡ S.selected shelf.old }
-        ensures keeps { KeepsShelf S.named S.open_faults S.read_faults shelf.old shelf.new }
+        ensures chosen { (S.told shelf.new).selected ≡ (S.told shelf.old).selected }
+        ensures keeps { KeepsShelf (S.told shelf.old) (S.told shelf.new) }
     {
         if let Some(halt) = self.failed {
             return Err(halt);

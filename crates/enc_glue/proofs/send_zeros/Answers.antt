@@ -1,7 +1,7 @@
-use Rattle.std.proofs.Common.{◌∙◌, ◌≤◌, ◌-◌, arith}
+use Rattle.std.proofs.Common.{◌≤◌, ◌-◌, arith}
 use Rattle.std.proofs.lemmas.List.{take-replicate}
 use Rattle.std.proofs.lemmas.Result.{err_from_is_err_and}
-use Rattle.mv_ends.proofs.Known.{Counts-trans, failed_later}
+use Rattle.mv_ends.proofs.Known.{keeps_sink_trans, failed_later}
 use Rattle.enc_glue.proofs.ZeroLemmas.{block_sent, block_failed}
 use Rattle.enc_glue.proofs.send_zeros.Goals as goal
 
@@ -13,8 +13,7 @@ turns-preserved g c =
     record {
       within = omega arith;
       bytes = block_sent _ _ _ _ (c.args.n - c.turns.left) n _ (take-replicate n 4096 0 fits) (omega (arith, c.turns.invariant.within)) c.turns.invariant.bytes c.in_ok-send.ensures.sent;
-      same_room = c.in_ok-send.ensures.same_room ∙ c.turns.invariant.same_room;
-      count = Counts-trans _ _ _ _ _ _ _ _ _ _ c.turns.invariant.count c.turns.invariant.same_room c.in_ok-send.ensures.count c.turns.invariant.bytes c.in_ok-send.ensures.sent;
+      keeps = keeps_sink_trans _ _ _ _ _ c.turns.invariant.keeps c.in_ok-send.ensures.keeps c.turns.invariant.bytes c.in_ok-send.ensures.sent;
     }
 
 pub returns-in_err-send : goal.returns-in_err-send
@@ -26,7 +25,6 @@ returns-in_err-send g c =
     rw p.1 (record {
       sent = tt;
       front = block_failed _ _ _ _ (c.args.n - c.turns.left) n _ (take-replicate n 4096 0 fits) (omega (arith, c.turns.invariant.within)) c.turns.invariant.bytes c.in_err-send.ensures.front;
-      same_room = c.in_err-send.ensures.same_room ∙ c.turns.invariant.same_room;
-      count = Counts-trans _ _ _ _ _ _ _ _ _ _ c.turns.invariant.count c.turns.invariant.same_room c.in_err-send.ensures.count c.turns.invariant.bytes c.in_err-send.ensures.front.grown;
-      failed = failed_later _ _ _ _ _ _ _ _ _ c.turns.invariant.count c.turns.invariant.same_room c.in_err-send.ensures.failed c.turns.invariant.bytes;
+      keeps = keeps_sink_trans _ _ _ _ _ c.turns.invariant.keeps c.in_err-send.ensures.keeps c.turns.invariant.bytes c.in_err-send.ensures.front.grown;
+      failed = failed_later _ _ _ _ c.turns.invariant.keeps c.in_err-send.ensures.failed c.turns.invariant.bytes;
     })

@@ -1,15 +1,14 @@
-use Rattle.std.proofs.Common.{◌∙◌, arith, sym, take, drop}
+use Rattle.std.proofs.Common.{arith, sym, take, drop}
 use Rattle.std.proofs.lemmas.List.{take-append-drop, length-drop}
 use Rattle.std.proofs.lemmas.Result.{err_from_is_err_and}
-use Rattle.mv_ends.proofs.Known.{Appends_next, Keeps_after, Keeps-Appends, Counts-trans, failed_later}
+use Rattle.mv_ends.proofs.Known.{Appends_next, Keeps_after, Keeps-Appends, keeps_sink_trans, failed_later}
 use Rattle.mv_ends.proofs.send.Goals as goal
 
 pub loop-sent-preserved : goal.loop-sent-preserved
 loop-sent-preserved g c = record {
   within = omega (arith, c.in_ok-sent.ensures.bound);
   bytes = Appends_next _ _ _ _ _ _ c.loop-sent.invariant.bytes c.in_ok-sent.ensures.bytes;
-  same_room = c.in_ok-sent.ensures.same_room ∙ c.loop-sent.invariant.same_room;
-  count = Counts-trans _ _ _ _ _ _ _ _ _ _ c.loop-sent.invariant.count c.loop-sent.invariant.same_room c.in_ok-sent.ensures.count c.loop-sent.invariant.bytes c.in_ok-sent.ensures.bytes;
+  keeps = keeps_sink_trans _ _ _ _ _ c.loop-sent.invariant.keeps c.in_ok-sent.ensures.keeps c.loop-sent.invariant.bytes c.in_ok-sent.ensures.bytes;
 }
 
 pub returns-in_err-sent : goal.returns-in_err-sent
@@ -24,7 +23,6 @@ returns-in_err-sent g c =
         some_left = omega (arith, length-drop c.loop-sent.sent c.args.bytes.now);
         grown = Keeps_after _ _ _ _ c.loop-sent.invariant.bytes c.in_err-sent.ensures.bytes;
       };
-      same_room = c.in_err-sent.ensures.same_room ∙ c.loop-sent.invariant.same_room;
-      count = Counts-trans _ _ _ _ _ _ _ _ _ _ c.loop-sent.invariant.count c.loop-sent.invariant.same_room c.in_err-sent.ensures.count c.loop-sent.invariant.bytes (Keeps-Appends _ _ c.in_err-sent.ensures.bytes);
-      failed = failed_later _ _ _ _ _ _ _ _ _ c.loop-sent.invariant.count c.loop-sent.invariant.same_room c.in_err-sent.ensures.failed c.loop-sent.invariant.bytes;
+      keeps = keeps_sink_trans _ _ _ _ _ c.loop-sent.invariant.keeps c.in_err-sent.ensures.keeps c.loop-sent.invariant.bytes (Keeps-Appends _ _ c.in_err-sent.ensures.bytes);
+      failed = failed_later _ _ _ _ c.loop-sent.invariant.keeps c.in_err-sent.ensures.failed c.loop-sent.invariant.bytes;
     })

@@ -3,7 +3,7 @@ use Rattle.mv_planes.specs.References.{references_lent}
 use Rattle.cert_picture.specs.Certifying.{coded_lent}
 use Rattle.cert_picture.specs.Lent.{lent_parts}
 use Rattle.cert_picture.proofs.CertifyingLemmas.{read_is_legal}
-use Rattle.cert_picture.proofs.RecordLemmas.{as_many_macroblocks, refilled}
+use Rattle.cert_picture.proofs.RecordLemmas.{all_of_frame, as_many_macroblocks, refilled}
 use Rattle.cert_picture.proofs.SealedLemmas.{front_of, no_record, sealed, sealed_samples, sheet_ends, unsealed_samples}
 use Rattle.cert_picture.specs.Records.{no_seal}
 use Rattle.cert_picture.proofs.frame.make_frame.Goals as goal
@@ -23,18 +23,19 @@ pub write_record-requires-clause-decisions : goal.write_record-requires-clause-d
 write_record-requires-clause-decisions c =
     let coded = c.args.coded.now in
     (read_is_legal coded.head.now c.args.stream.now.unit.slices.now coded.decisions.now coded.levels.now c.requires.head c.requires.coded).legal_decisions.size
+    ∙ sym (all_of_frame coded.head.now c.requires.head.frame)
 
 pub bury_sealed-requires-clause-slots : goal.bury_sealed-requires-clause-slots
 bury_sealed-requires-clause-slots c =
     let coded = c.args.coded.now in
     ap length c.deref.ensures.value ∙ c.write_record.ensures.slots_size
-    ∙ ap (λ n. 20 * n) (sym (as_many_macroblocks (references_lent coded.refs) (coded_lent coded) coded.picture.now c.requires.decoded))
+    ∙ ap (λ n. 20 * n) (sym (as_many_macroblocks (references_lent coded.refs) (coded_lent coded) coded.picture.now c.requires.head.frame c.requires.decoded))
 
 pub bury_sealed-requires-clause-sheet : goal.bury_sealed-requires-clause-sheet
 bury_sealed-requires-clause-sheet c =
     let coded = c.args.coded.now in
     c.write_record.ensures.sheet_size
-    ∙ ap (λ n. 12 * n) (sym (as_many_macroblocks (references_lent coded.refs) (coded_lent coded) coded.picture.now c.requires.decoded))
+    ∙ ap (λ n. 12 * n) (sym (as_many_macroblocks (references_lent coded.refs) (coded_lent coded) coded.picture.now c.requires.head.frame c.requires.decoded))
 
 pub returns-clause-frame : goal.returns-clause-frame
 returns-clause-frame c =

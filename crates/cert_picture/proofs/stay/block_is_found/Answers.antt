@@ -1,7 +1,7 @@
 use Rattle.std.proofs.Common.{refl, sym}
 use Rattle.mv_terms.specs.Block.{entry}
 use Rattle.cert_picture.specs.Steps.{block_samples, sample_at}
-use Rattle.cert_picture.proofs.FoundLemmas.{absent_found, found_like, holds_samples}
+use Rattle.cert_picture.proofs.NearestLemmas.{absent_found, found_like, holds_samples}
 use Rattle.cert_picture.proofs.stay.block_is_found.Goals as goal
 
 pub returns-then-is_absent : goal.returns-then-is_absent

@@ -1,6 +1,6 @@
 use Rattle.std.proofs.Common.{sym}
 use Rattle.cert_picture.specs.Steps.{block_samples, sample_at}
-use Rattle.cert_picture.proofs.FoundLemmas.{absent_found, stays_like}
+use Rattle.cert_picture.proofs.NearestLemmas.{absent_found, stays_like}
 use Rattle.cert_picture.proofs.stay.block_stays.Goals as goal
 
 pub returns-then-is_absent : goal.returns-then-is_absent

@@ -14,8 +14,8 @@ returns-in-Ok-read_list-clause-listed g c = λ inputs told.
     let items : c.deref.result.now ≡ to = c.deref.ensures.value ∙ with_items_is c.in-Ok-list_store.store to (omega (arith, len, c.in-Ok-list_store.ensures)) in
     let count : length (take n to) ≡ n = length-take-le n to (omega (arith, r.within)) in
     let whole : n - 0 ≡ n = omega arith in
-    let read : Consumes (g.S.Shelf.rest c.select.new.self) (g.S.Shelf.rest c.read_all.new.shelf) (take n to) = subst (λ k. Consumes (g.S.Shelf.rest c.select.new.self) (g.S.Shelf.rest c.read_all.new.shelf) (take k to)) whole r.read in
-    sym (list_read (g.S.Shelf.named c.args.shelf.now) inputs c.args.list.now (g.S.Shelf.rest c.select.new.self) (g.S.Shelf.rest c.read_all.new.shelf) (take n to) told c.in-Ok.ensures.opened read
+    let read : Consumes (g.S.Shelf.told c.select.new.self).rest (g.S.Shelf.told c.read_all.new.shelf).rest (take n to) = subst (λ k. Consumes (g.S.Shelf.told c.select.new.self).rest (g.S.Shelf.told c.read_all.new.shelf).rest (take k to)) whole r.read in
+    sym (list_read (g.S.Shelf.told c.args.shelf.now).named inputs c.args.list.now (g.S.Shelf.told c.select.new.self).rest (g.S.Shelf.told c.read_all.new.shelf).rest (take n to) told c.in-Ok.ensures.opened read
     (omega (arith, count, r.within, len)) (λ l. r.end (omega (arith, count, l, c.in-Ok-list_store.ensures, ap length c.deref_mut.ensures.value))))
     ∙ ap (λ (xs : List ℕ). entries_of (take n xs)) (sym items) ∙ c.in-Ok-read_list.ensures.entries
 
@@ -30,8 +30,8 @@ returns-in-Err-BadLine-clause-refused g c = (
       let items : c.deref.result.now ≡ to = c.deref.ensures.value ∙ with_items_is c.in-Ok-list_store.store to (omega (arith, len, c.in-Ok-list_store.ensures)) in
       let count : length (take n to) ≡ n = length-take-le n to (omega (arith, r.within)) in
       let whole : n - 0 ≡ n = omega arith in
-      let read : Consumes (g.S.Shelf.rest c.select.new.self) (g.S.Shelf.rest c.read_all.new.shelf) (take n to) = subst (λ k. Consumes (g.S.Shelf.rest c.select.new.self) (g.S.Shelf.rest c.read_all.new.shelf) (take k to)) whole r.read in
-      sym (list_read (g.S.Shelf.named c.args.shelf.now) inputs c.args.list.now (g.S.Shelf.rest c.select.new.self) (g.S.Shelf.rest c.read_all.new.shelf) (take n to) told c.in-Ok.ensures.opened read
+      let read : Consumes (g.S.Shelf.told c.select.new.self).rest (g.S.Shelf.told c.read_all.new.shelf).rest (take n to) = subst (λ k. Consumes (g.S.Shelf.told c.select.new.self).rest (g.S.Shelf.told c.read_all.new.shelf).rest (take k to)) whole r.read in
+      sym (list_read (g.S.Shelf.told c.args.shelf.now).named inputs c.args.list.now (g.S.Shelf.told c.select.new.self).rest (g.S.Shelf.told c.read_all.new.shelf).rest (take n to) told c.in-Ok.ensures.opened read
       (omega (arith, count, r.within, len)) (λ l. r.end (omega (arith, count, l, c.in-Ok-list_store.ensures, ap length c.deref_mut.ensures.value))))
       ∙ ap (λ (xs : List ℕ). entries_of (take n xs)) (sym items) ∙ (rw c.in-Err-BadLine.field-0-is at c.in-Err-BadLine.ensures.entries),
 )

@@ -1,7 +1,7 @@
 use Rattle.enc_stream.proofs.FrameLemmas.{frames_are_shown, frames_are_stream}
 use Rattle.enc_stream.proofs.FrontLemmas.{Laws}
 use Rattle.enc_stream.proofs.ShownLemmas.{steps_are_shown}
-use Rattle.enc_stream.proofs.StreamLemmas.{no_steps_are_nothing, steps_are_stream, steps_have_their_pictures}
+use Rattle.enc_stream.proofs.StreamLemmas.{no_steps_are_nothing, steps_are_stream, steps_have_their_pictures, streams_are_in_profile}
 use Rattle.enc_stream.proofs.laws.stream_law.Goals as goal
 
 -- what the laws of crates below say
@@ -35,3 +35,6 @@ returns-clause-frames c = frames_are_stream (laws c) c.steps_law.ensures.fits c.
 
 pub returns-clause-frames_shown : goal.returns-clause-frames_shown
 returns-clause-frames_shown c = frames_are_shown steps_are_shown c.steps_law.ensures.fits c.steps_law.ensures.shown c.right_law.ensures
+
+pub returns-clause-profile : goal.returns-clause-profile
+returns-clause-profile c = streams_are_in_profile

@@ -1,6 +1,6 @@
 use Rattle.std.proofs.Common.{◌≡◌, ◌≤◌, ◌^◌, Option, Some, None, Ok, Err, Bool, true, false, refl, sym, ap, ◌∙◌, subst, arith}
 use Rattle.mv_ends.specs.Sends.{Sends}
-use Rattle.mv_ends.proofs.Known.{Counts-trans, failed_later}
+use Rattle.mv_ends.proofs.Known.{keeps_sink_refl, keeps_sink_trans, failed_later, keeps_shelf_refl, keeps_shelf_trans}
 use Rattle.mv_terms.specs.declared.status.FrameFault.{FrameFault}
 use Rattle.mv_terms.specs.declared.status.Status.TheVariants as status
 use Rattle.y4m_frames.specs.declared.halt.Halt.{Halt}
@@ -8,7 +8,6 @@ use Rattle.y4m_frames.specs.declared.halt.Halt.TheVariants as halts
 use Rattle.plan_window.specs.Plan.{ahead}
 use Rattle.plan_window.specs.Numbers.{AreNumbered}
 use Rattle.plan_window.specs.State.{steps_left}
-use Rattle.y4m_frames.proofs.ShelfLemmas.{keeps_trans}
 use Rattle.job_coding.specs.Codings.{Coding, IsNextStep, IsFrameOf, bytes_of_coding, frame_steps, summaries}
 use Rattle.job_coding.specs.Outcome.{status_of}
 use Rattle.job_coding.proofs.Turns.{NoStep, still, all_pushed, turn_at, turn_starts, step_ready, turn_steps, look_ready, turn_reads, turn_closes, left_more, left_same, says_fault, says_end}
@@ -20,7 +19,7 @@ not_ended f e = cc
 
 pub turns-init : goal.turns-init
 turns-init g c = record {
-  turn = turn_starts (g.C.Coder.coding c.args.coder.now) c.args.reader.now (g.S.Shelf.rest c.args.shelf.now) c.args.window.now c.args.slots.now (g.O.Sink.written c.args.out.now)
+  turn = turn_starts (g.C.Coder.coding c.args.coder.now) c.args.reader.now (g.S.Shelf.told c.args.shelf.now).rest c.args.window.now c.args.slots.now (g.O.Sink.told c.args.out.now).written
       (record { whole = c.plan_law.ensures.whole; counted = c.plan_law.ensures.counted; serve = c.numbers_law.ensures.serve }) c.requires.window c.requires.not_closed c.requires.coder c.requires.header;
   at_end = λ e. absurd cc;
   runs = λ e. c.requires.runs;
@@ -29,9 +28,8 @@ turns-init g c = record {
   sizes = c.requires.sizes;
   room = omega (arith, c.requires.room);
   chosen = refl;
-  kept = record { inputs = refl; opens = λ name. omega arith; reads = λ name. omega arith };
-  same_room = refl;
-  counts = record { later = omega arith; moved = λ rose. absurd (omega arith) };
+  kept = keeps_shelf_refl (g.S.Shelf.told c.args.shelf.now);
+  keeps_sink = keeps_sink_refl (g.O.Sink.told c.args.out.now);
 }
 
 -- a step
@@ -56,10 +54,10 @@ turns-preserved-in-Ok g c =
     let ready = subst (λ (k : Coding). IsNextStep k steps (record { step = c.in-Some.step; frame = c.frame.result.now })) (sym c.turns.invariant.coding)
     (step_ready t c.plan_next.new.self c.in-Some.step c.frame.result.now (c.in-Some.ensures.stands t.numbered t.given t.stands) c.in-Some.ensures.frame c.in-Some.ensures.left c.frame.ensures most) in
     let k = g.C.Coder.coding c.args.coder.now in
-    let sends = subst (λ (x : Coding). Sends g.O.Sink.written g.O.Sink.faults g.O.Sink.room c.turns.out c.code.new.out (x.bytes steps (record { step = c.in-Some.step; frame = c.frame.result.now })) c.code.result) c.turns.invariant.coding (c.code.ensures.sends t.frames t.numbered steps t.codes ready) in
+    let sends = subst (λ (x : Coding). Sends (g.O.Sink.told c.turns.out) (g.O.Sink.told c.code.new.out) (x.bytes steps (record { step = c.in-Some.step; frame = c.frame.result.now })) c.code.result) c.turns.invariant.coding (c.code.ensures.sends t.frames t.numbered steps t.codes ready) in
     let sent = on_ok c.code.result c.in-Ok.field-0 sends.sent c.in-Ok.is in
     record {
-      turn = turn_steps c.plan_next.new.self (g.O.Sink.written c.code.new.out) c.in-Some.step c.frame.result.now t (c.in-Some.ensures.stands t.numbered t.given t.stands) c.in-Some.ensures.frame c.in-Some.ensures.left c.in-Some.ensures.closed c.frame.ensures (c.in-Ok.ensures.stands t.frames t.numbered steps t.codes ready) sent;
+      turn = turn_steps c.plan_next.new.self (g.O.Sink.told c.code.new.out).written c.in-Some.step c.frame.result.now t (c.in-Some.ensures.stands t.numbered t.given t.stands) c.in-Some.ensures.frame c.in-Some.ensures.left c.in-Some.ensures.closed c.frame.ensures (c.in-Ok.ensures.stands t.frames t.numbered steps t.codes ready) sent;
       at_end = c.turns.invariant.at_end;
       runs = c.turns.invariant.runs;
       coding = c.code.ensures.coding ∙ c.turns.invariant.coding;
@@ -68,8 +66,7 @@ turns-preserved-in-Ok g c =
       room = c.turns.invariant.room;
       chosen = c.turns.invariant.chosen;
       kept = c.turns.invariant.kept;
-      same_room = sends.same_room ∙ c.turns.invariant.same_room;
-      counts = Counts-trans _ _ _ _ _ _ _ _ (bytes_of_coding k steps) (k.bytes steps (record { step = c.in-Some.step; frame = c.frame.result.now })) c.turns.invariant.counts c.turns.invariant.same_room sends.count t.written sent;
+      keeps_sink = keeps_sink_trans _ _ _ (bytes_of_coding k steps) (k.bytes steps (record { step = c.in-Some.step; frame = c.frame.result.now })) c.turns.invariant.keeps_sink sends.keeps t.written sent;
     }
 
 pub returns-in-Err-clause-ends : goal.returns-in-Err-clause-ends
@@ -79,8 +76,8 @@ returns-in-Err-clause-ends g c = λ coding file coding_is begins.
     let most : c.turns.count ≤ 2 ^ 44 = omega (arith, c.turns.invariant.room) in
     let ready = subst (λ (k : Coding). IsNextStep k steps (record { step = c.in-Some.step; frame = c.frame.result.now })) (sym c.turns.invariant.coding)
     (step_ready t c.plan_next.new.self c.in-Some.step c.frame.result.now (c.in-Some.ensures.stands t.numbered t.given t.stands) c.in-Some.ensures.frame c.in-Some.ensures.left c.frame.ensures most) in
-    let sends = subst (λ (x : Coding). Sends g.O.Sink.written g.O.Sink.faults g.O.Sink.room c.turns.out c.code.new.out (x.bytes steps (record { step = c.in-Some.step; frame = c.frame.result.now })) c.code.result) c.turns.invariant.coding (c.code.ensures.sends t.frames t.numbered steps t.codes ready) in
-    exit_step c.plan_next.new.self (g.O.Sink.written c.code.new.out) c.in-Some.step c.frame.result.now t (c.in-Some.ensures.stands t.numbered t.given t.stands) c.in-Some.ensures.frame c.in-Some.ensures.closed c.frame.ensures
+    let sends = subst (λ (x : Coding). Sends (g.O.Sink.told c.turns.out) (g.O.Sink.told c.code.new.out) (x.bytes steps (record { step = c.in-Some.step; frame = c.frame.result.now })) c.code.result) c.turns.invariant.coding (c.code.ensures.sends t.frames t.numbered steps t.codes ready) in
+    exit_step c.plan_next.new.self (g.O.Sink.told c.code.new.out).written c.in-Some.step c.frame.result.now t (c.in-Some.ensures.stands t.numbered t.given t.stands) c.in-Some.ensures.frame c.in-Some.ensures.closed c.frame.ensures
     (on_err c.code.result c.in-Err.field-0 sends.front c.in-Err.is) coding file (ap coding c.requires.header ∙ coding_is) begins
 
 pub returns-in-Err-clause-write_fault : goal.returns-in-Err-clause-write_fault
@@ -91,21 +88,11 @@ returns-in-Err-clause-write_fault g c = λ same.
     let ready = subst (λ (k : Coding). IsNextStep k steps (record { step = c.in-Some.step; frame = c.frame.result.now })) (sym c.turns.invariant.coding)
     (step_ready t c.plan_next.new.self c.in-Some.step c.frame.result.now (c.in-Some.ensures.stands t.numbered t.given t.stands) c.in-Some.ensures.frame c.in-Some.ensures.left c.frame.ensures most) in
     let sends = c.code.ensures.sends t.frames t.numbered steps t.codes ready in
-    failed_later (g.O.Sink.faults c.args.out.now) (g.O.Sink.faults c.turns.out) (g.O.Sink.faults c.code.new.out) (g.O.Sink.room c.args.out.now) (g.O.Sink.room c.turns.out) (g.O.Sink.written c.args.out.now) (g.O.Sink.written c.turns.out) (g.O.Sink.written c.code.new.out) (bytes_of_coding (g.C.Coder.coding c.args.coder.now) steps)
-    c.turns.invariant.counts c.turns.invariant.same_room (on_err c.code.result c.in-Err.field-0 sends.failed c.in-Err.is) t.written
+    failed_later (g.O.Sink.told c.args.out.now) (g.O.Sink.told c.turns.out) (g.O.Sink.told c.code.new.out) (bytes_of_coding (g.C.Coder.coding c.args.coder.now) steps)
+    c.turns.invariant.keeps_sink (on_err c.code.result c.in-Err.field-0 sends.failed c.in-Err.is) t.written
 
-pub returns-in-Err-clause-same_room : goal.returns-in-Err-clause-same_room
-returns-in-Err-clause-same_room g c =
-    let t = c.turns.invariant.turn in
-    let steps = frame_steps t.frames t.given in
-    let most : c.turns.count ≤ 2 ^ 44 = omega (arith, c.turns.invariant.room) in
-    let ready = subst (λ (k : Coding). IsNextStep k steps (record { step = c.in-Some.step; frame = c.frame.result.now })) (sym c.turns.invariant.coding)
-    (step_ready t c.plan_next.new.self c.in-Some.step c.frame.result.now (c.in-Some.ensures.stands t.numbered t.given t.stands) c.in-Some.ensures.frame c.in-Some.ensures.left c.frame.ensures most) in
-    let sends = c.code.ensures.sends t.frames t.numbered steps t.codes ready in
-    sends.same_room ∙ c.turns.invariant.same_room
-
-pub returns-in-Err-clause-count : goal.returns-in-Err-clause-count
-returns-in-Err-clause-count g c =
+pub returns-in-Err-clause-keeps_sink : goal.returns-in-Err-clause-keeps_sink
+returns-in-Err-clause-keeps_sink g c =
     let t = c.turns.invariant.turn in
     let steps = frame_steps t.frames t.given in
     let most : c.turns.count ≤ 2 ^ 44 = omega (arith, c.turns.invariant.room) in
@@ -113,7 +100,7 @@ returns-in-Err-clause-count g c =
     (step_ready t c.plan_next.new.self c.in-Some.step c.frame.result.now (c.in-Some.ensures.stands t.numbered t.given t.stands) c.in-Some.ensures.frame c.in-Some.ensures.left c.frame.ensures most) in
     let sends = c.code.ensures.sends t.frames t.numbered steps t.codes ready in
     let front = on_err c.code.result c.in-Err.field-0 sends.front c.in-Err.is in
-    Counts-trans _ _ _ _ _ _ _ _ (bytes_of_coding (g.C.Coder.coding c.args.coder.now) steps) front.front c.turns.invariant.counts c.turns.invariant.same_room sends.count t.written front.grown
+    keeps_sink_trans _ _ _ (bytes_of_coding (g.C.Coder.coding c.args.coder.now) steps) front.front c.turns.invariant.keeps_sink sends.keeps t.written front.grown
 
 -- the end of the output
 
@@ -123,8 +110,8 @@ returns-in-Ok-finish-clause-ends g c = λ coding file coding_is begins.
     let none = subst NoStep (sym kept) (c.in-None.ensures.none.0 refl) in
     let t = turn_at c.plan_next.new.self (Some c.in-Some-ending.fault) c.turns.invariant.turn kept c.in-Some-ending.is in
     let steps = frame_steps t.frames t.given in
-    let sends = subst (λ (x : Coding). Sends g.O.Sink.written g.O.Sink.faults g.O.Sink.room c.turns.out c.finish.new.out (x.ending steps) c.finish.result) c.turns.invariant.coding (c.finish.ensures t.frames t.numbered steps t.codes) in
-    exit_ended (g.O.Sink.written c.finish.new.out) c.status_of.result t none (on_ok c.finish.result c.in-Ok-finish.field-0 sends.sent c.in-Ok-finish.is) c.status_of.ensures coding file (ap coding c.requires.header ∙ coding_is) begins
+    let sends = subst (λ (x : Coding). Sends (g.O.Sink.told c.turns.out) (g.O.Sink.told c.finish.new.out) (x.ending steps) c.finish.result) c.turns.invariant.coding (c.finish.ensures t.frames t.numbered steps t.codes) in
+    exit_ended (g.O.Sink.told c.finish.new.out).written c.status_of.result t none (on_ok c.finish.result c.in-Ok-finish.field-0 sends.sent c.in-Ok-finish.is) c.status_of.ensures coding file (ap coding c.requires.header ∙ coding_is) begins
 
 done_is_none : (fault : Option FrameFault) → status_of fault ≡ status.Done → fault ≡ None
 done_is_none None e = refl
@@ -133,12 +120,12 @@ done_is_none (Some fault) e = absurd cc
 pub returns-in-Ok-finish-clause-done : goal.returns-in-Ok-finish-clause-done
 returns-in-Ok-finish-clause-done g c = λ e. c.turns.invariant.at_end (c.in-Some-ending.is ∙ ap (λ (f : Option FrameFault). Some f) (done_is_none c.in-Some-ending.fault (sym c.status_of.ensures ∙ e)))
 
-pub returns-in-Ok-finish-clause-count : goal.returns-in-Ok-finish-clause-count
-returns-in-Ok-finish-clause-count g c =
+pub returns-in-Ok-finish-clause-keeps_sink : goal.returns-in-Ok-finish-clause-keeps_sink
+returns-in-Ok-finish-clause-keeps_sink g c =
     let t = c.turns.invariant.turn in
     let steps = frame_steps t.frames t.given in
     let sends = c.finish.ensures t.frames t.numbered steps t.codes in
-    Counts-trans _ _ _ _ _ _ _ _ (bytes_of_coding (g.C.Coder.coding c.args.coder.now) steps) ((g.C.Coder.coding c.turns.coder).ending steps) c.turns.invariant.counts c.turns.invariant.same_room sends.count t.written (on_ok c.finish.result c.in-Ok-finish.field-0 sends.sent c.in-Ok-finish.is)
+    keeps_sink_trans _ _ _ (bytes_of_coding (g.C.Coder.coding c.args.coder.now) steps) ((g.C.Coder.coding c.turns.coder).ending steps) c.turns.invariant.keeps_sink sends.keeps t.written (on_ok c.finish.result c.in-Ok-finish.field-0 sends.sent c.in-Ok-finish.is)
 
 pub returns-in-Err-finish-clause-ends : goal.returns-in-Err-finish-clause-ends
 returns-in-Err-finish-clause-ends g c = λ coding file coding_is begins.
@@ -146,8 +133,8 @@ returns-in-Err-finish-clause-ends g c = λ coding file coding_is begins.
     let none = subst NoStep (sym kept) (c.in-None.ensures.none.0 refl) in
     let t = turn_at c.plan_next.new.self (Some c.in-Some-ending.fault) c.turns.invariant.turn kept c.in-Some-ending.is in
     let steps = frame_steps t.frames t.given in
-    let sends = subst (λ (x : Coding). Sends g.O.Sink.written g.O.Sink.faults g.O.Sink.room c.turns.out c.finish.new.out (x.ending steps) c.finish.result) c.turns.invariant.coding (c.finish.ensures t.frames t.numbered steps t.codes) in
-    exit_unended (g.O.Sink.written c.finish.new.out) t none (on_err c.finish.result c.in-Err-finish.field-0 sends.front c.in-Err-finish.is) coding file (ap coding c.requires.header ∙ coding_is) begins
+    let sends = subst (λ (x : Coding). Sends (g.O.Sink.told c.turns.out) (g.O.Sink.told c.finish.new.out) (x.ending steps) c.finish.result) c.turns.invariant.coding (c.finish.ensures t.frames t.numbered steps t.codes) in
+    exit_unended (g.O.Sink.told c.finish.new.out).written t none (on_err c.finish.result c.in-Err-finish.field-0 sends.front c.in-Err-finish.is) coding file (ap coding c.requires.header ∙ coding_is) begins
 
 -- a frame
 
@@ -198,9 +185,8 @@ turns-preserved-in-Ok-true g c =
       sizes = c.read.ensures.sizes;
       room = omega (arith, c.turns.invariant.room, less);
       chosen = c.read.ensures.chosen ∙ c.turns.invariant.chosen;
-      kept = keeps_trans g.S.Shelf.named g.S.Shelf.open_faults g.S.Shelf.read_faults c.args.shelf.now c.turns.shelf c.read.new.shelf c.turns.invariant.kept c.read.ensures.keeps;
-      same_room = c.turns.invariant.same_room;
-      counts = c.turns.invariant.counts;
+      kept = keeps_shelf_trans (g.S.Shelf.told c.args.shelf.now) (g.S.Shelf.told c.turns.shelf) (g.S.Shelf.told c.read.new.shelf) c.turns.invariant.kept c.read.ensures.keeps;
+      keeps_sink = c.turns.invariant.keeps_sink;
     }
 
 -- the end of the file
@@ -220,7 +206,7 @@ turns-preserved-in-Ok-false g c =
     let is : c.read.result ≡ Ok false = c.in-Ok-false.is ∙ ap (λ (b : Bool). Ok b) c.in-Ok-false.field-0-test in
     record {
       turn = turn_closes c.close.new.self None t none c.read.ensures.fills c.read.ensures.header
-          (λ file samples said. (says_end c.turns.reader c.read.new.reader (g.S.Shelf.rest c.read.new.shelf) file t.frames samples c.read.result is said).0)
+          (λ file samples said. (says_end c.turns.reader c.read.new.reader (g.S.Shelf.told c.read.new.shelf).rest file t.frames samples c.read.result is said).0)
           (c.close.ensures.stands t.numbered t.given t.stands) c.close.ensures.held c.close.ensures.closed;
       at_end = λ e. c.in-Ok-false.ensures.at_end c.in-Ok-false.field-0-test;
       runs = λ e. absurd cc;
@@ -229,9 +215,8 @@ turns-preserved-in-Ok-false g c =
       sizes = c.read.ensures.sizes;
       room = omega (arith, c.turns.invariant.room, c.read.ensures.room);
       chosen = c.read.ensures.chosen ∙ c.turns.invariant.chosen;
-      kept = keeps_trans g.S.Shelf.named g.S.Shelf.open_faults g.S.Shelf.read_faults c.args.shelf.now c.turns.shelf c.read.new.shelf c.turns.invariant.kept c.read.ensures.keeps;
-      same_room = c.turns.invariant.same_room;
-      counts = c.turns.invariant.counts;
+      kept = keeps_shelf_trans (g.S.Shelf.told c.args.shelf.now) (g.S.Shelf.told c.turns.shelf) (g.S.Shelf.told c.read.new.shelf) c.turns.invariant.kept c.read.ensures.keeps;
+      keeps_sink = c.turns.invariant.keeps_sink;
     }
 
 -- a fault of the file
@@ -250,7 +235,7 @@ turns-preserved g c =
     let t = turn_at c.plan_next.new.self None c.turns.invariant.turn kept c.in-None-ending.is in
     let is : c.read.result ≡ Err (halts.Fault c.in-Err-Fault.fault) = c.in-Err-Fault.is ∙ ap (λ (h : Halt). Err h) c.in-Err-Fault.field-0-is in
     let closed = turn_closes c.close-in-Err-Fault.new.self (Some c.in-Err-Fault.fault) t none c.read.ensures.fills c.read.ensures.header
-    (λ file samples said. says_fault c.turns.reader c.read.new.reader (g.S.Shelf.rest c.read.new.shelf) file t.frames samples c.read.result c.in-Err-Fault.fault is said)
+    (λ file samples said. says_fault c.turns.reader c.read.new.reader (g.S.Shelf.told c.read.new.shelf).rest file t.frames samples c.read.result c.in-Err-Fault.fault is said)
     (c.close-in-Err-Fault.ensures.stands t.numbered t.given t.stands) c.close-in-Err-Fault.ensures.held c.close-in-Err-Fault.ensures.closed in
     record {
       turn = turn_at c.close-in-Err-Fault.new.self _ closed refl (ap (λ (f : FrameFault). Some (Some f)) (sym c.in-Err-Fault.fault-is));
@@ -261,9 +246,8 @@ turns-preserved g c =
       sizes = c.read.ensures.sizes;
       room = omega (arith, c.turns.invariant.room, c.read.ensures.room);
       chosen = c.read.ensures.chosen ∙ c.turns.invariant.chosen;
-      kept = keeps_trans g.S.Shelf.named g.S.Shelf.open_faults g.S.Shelf.read_faults c.args.shelf.now c.turns.shelf c.read.new.shelf c.turns.invariant.kept c.read.ensures.keeps;
-      same_room = c.turns.invariant.same_room;
-      counts = c.turns.invariant.counts;
+      kept = keeps_shelf_trans (g.S.Shelf.told c.args.shelf.now) (g.S.Shelf.told c.turns.shelf) (g.S.Shelf.told c.read.new.shelf) c.turns.invariant.kept c.read.ensures.keeps;
+      keeps_sink = c.turns.invariant.keeps_sink;
     }
 
 pub returns-in-Err-Read-clause-ends : goal.returns-in-Err-Read-clause-ends

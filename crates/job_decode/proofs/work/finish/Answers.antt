@@ -6,8 +6,8 @@ use Rattle.job_decode.proofs.work.finish.Goals as goal
 
 pub returns-in-Ok-clause-ends : goal.returns-in-Ok-clause-ends
 returns-in-Ok-clause-ends g c =
-    inl (refl, λ before stands. subst (λ (s : List ℕ). Appends (g.O.Sink.written c.args.out.now) (g.O.Sink.written c.write_held.new.out) s) (held_is c.args.work.now before stands) c.in-Ok.ensures.sent)
+    inl (refl, λ before stands. subst (λ (s : List ℕ). Appends (g.O.Sink.told c.args.out.now).written (g.O.Sink.told c.write_held.new.out).written s) (held_is c.args.work.now before stands) c.in-Ok.ensures.sent)
 
 pub returns-in-Err-clause-ends : goal.returns-in-Err-clause-ends
 returns-in-Err-clause-ends g c =
-    inr (refl, λ before stands. subst (λ (s : List ℕ). AppendsFront (g.O.Sink.written c.args.out.now) (g.O.Sink.written c.write_held.new.out) s) (held_is c.args.work.now before stands) c.in-Err.ensures.front)
+    inr (refl, λ before stands. subst (λ (s : List ℕ). AppendsFront (g.O.Sink.told c.args.out.now).written (g.O.Sink.told c.write_held.new.out).written s) (held_is c.args.work.now before stands) c.in-Err.ensures.front)

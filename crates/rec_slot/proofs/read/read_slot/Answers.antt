@@ -24,5 +24,6 @@ returns c =
           (next_same _ _ _ _ (high_byte _ _ _ (fits 17) (fits 18) c.vector_at-4.ensures.y) (next_same _ _ _ _ (low_byte _ _ _ (fits 17) (fits 18) c.vector_at-4.ensures.y)
           refl))))))))))))))))))
           ∙ sym (one_by_one b c.told-bytes);
+      motion = record { half = refl; dual = refl; dual_delta = refl };
       scales = record { scale = (omega arith, omega arith); head_scale = omega arith };
     }

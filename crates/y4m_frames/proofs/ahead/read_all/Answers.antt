@@ -1,8 +1,8 @@
 use Rattle.std.proofs.Common.{◌∙◌, sym, subst, arith}
 use Rattle.std.proofs.KnownBytes.{Consumes-trans}
 use Rattle.std.specs.Io.KnownBytes.{Consumes}
+use Rattle.mv_ends.proofs.Known.{keeps_shelf_trans}
 use Rattle.y4m_frames.proofs.AheadLemmas.{range_grown, take_less}
-use Rattle.y4m_frames.proofs.ShelfLemmas.{keeps_trans}
 use Rattle.y4m_frames.proofs.ahead.read_all.Goals as goal
 
 pub reads-preserved : goal.reads-preserved
@@ -15,9 +15,9 @@ reads-preserved g c =
       within = omega (arith, e.within, c.read_behind.auto.store);
       same_len = c.read_behind.auto.store ∙ i.same_len;
       front = take_less new c.reads.to c.args.from c.reads.filled i.low e.front ∙ i.front;
-      read = subst (Consumes (g.S.Shelf.rest c.args.shelf.now) (g.S.Shelf.rest c.read_behind.new.shelf))
+      read = subst (Consumes (g.S.Shelf.told c.args.shelf.now).rest (g.S.Shelf.told c.read_behind.new.shelf).rest)
           (sym (range_grown c.reads.to new c.args.from c.reads.filled c.in_ok-count.count i.low e.front))
-          (Consumes-trans (g.S.Shelf.rest c.args.shelf.now) (g.S.Shelf.rest c.reads.shelf) (g.S.Shelf.rest c.read_behind.new.shelf) _ _ i.read e.read);
+          (Consumes-trans (g.S.Shelf.told c.args.shelf.now).rest (g.S.Shelf.told c.reads.shelf).rest (g.S.Shelf.told c.read_behind.new.shelf).rest _ _ i.read e.read);
       chosen = e.chosen ∙ i.chosen;
-      keeps = keeps_trans g.S.Shelf.named g.S.Shelf.open_faults g.S.Shelf.read_faults c.args.shelf.now c.reads.shelf c.read_behind.new.shelf i.keeps e.keeps;
+      keeps = keeps_shelf_trans (g.S.Shelf.told c.args.shelf.now) (g.S.Shelf.told c.reads.shelf) (g.S.Shelf.told c.read_behind.new.shelf) i.keeps e.keeps;
     }

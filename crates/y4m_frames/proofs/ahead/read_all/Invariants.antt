@@ -1,6 +1,6 @@
 use Rattle.std.proofs.Common.{length, ◌-◌, ◌≡◌, ◌≤◌, take, slice_range}
 use Rattle.std.specs.Io.KnownBytes.{Consumes}
-use Rattle.mv_ends.specs.Shelves.{KeepsShelf}
+use Rattle.mv_ends.specs.Kept.{KeepsShelf}
 use Rattle.y4m_frames.proofs.ahead.read_all.Given as goal
 
 abbrev pub invariant-reads : goal.invariant-reads
@@ -9,9 +9,9 @@ invariant-reads g l = record {
   within : l.filled ≤ length l.to;
   same_len : length l.to ≡ length l.fn.to;
   front : take l.fn.from l.to ≡ take l.fn.from l.fn.to;
-  read : Consumes (g.S.Shelf.rest l.fn.shelf) (g.S.Shelf.rest l.shelf) (slice_range l.to l.fn.from l.filled);
-  chosen : g.S.Shelf.selected l.shelf ≡ g.S.Shelf.selected l.fn.shelf;
-  keeps : KeepsShelf g.S.Shelf.named g.S.Shelf.open_faults g.S.Shelf.read_faults l.fn.shelf l.shelf;
+  read : Consumes (g.S.Shelf.told l.fn.shelf).rest (g.S.Shelf.told l.shelf).rest (slice_range l.to l.fn.from l.filled);
+  chosen : (g.S.Shelf.told l.shelf).selected ≡ (g.S.Shelf.told l.fn.shelf).selected;
+  keeps : KeepsShelf (g.S.Shelf.told l.fn.shelf) (g.S.Shelf.told l.shelf);
 }
 
 abbrev pub decreases-reads : goal.decreases-reads

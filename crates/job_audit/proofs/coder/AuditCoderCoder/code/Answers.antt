@@ -23,7 +23,7 @@ returns-clause-sends g c = λ frames numbered before stands next.
     let coder = c.args.self.now in
     let s : FrameStep = record { step = c.args.step; frame = c.args.frame.now } in
     let said : c.map-found.result ≡ option_map said_by (found (file_size coder.header) c.args.frame.now) = search (c.found.ensures.found coder.header frames numbered stands.0, c.map-found.ensures.cases, rules) in
-    subst (λ (text : List ℕ). Sends g.O.Sink.written g.O.Sink.faults g.O.Sink.room c.args.out.now c.write_due.new.out text c.write_due.result)
+    subst (λ (text : List ℕ). Sends (g.O.Sink.told c.args.out.now) (g.O.Sink.told c.write_due.new.out) text c.write_due.result)
     (c.take-due.ensures.due (recoding_by_records 1 coder.header) before s stands.1 refl said) c.write_due.ensures
 
 pub found-requires : goal.found-requires

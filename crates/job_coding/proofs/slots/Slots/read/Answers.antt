@@ -32,7 +32,7 @@ returns-clause-fills g c =
       frame = c.next.new.frame;
       slots_are = map-set (λ v. v.items) c.self.inside.frames.items k w ∙ ap (λ xs. slice_set xs k w.items) view ∙ ap (slice_set c.args.self.now k) is;
       right = λ ok.
-          let h = subst (λ (r : Result Bool Halt). IfOk r (λ some. some ≡ true → Hands c.args.reader.now c.next.new.self (g.S.Shelf.rest c.args.shelf.now) (g.S.Shelf.rest c.next.new.shelf) c.next.new.frame)) ok c.next.ensures.hands in
+          let h = subst (λ (r : Result Bool Halt). IfOk r (λ some. some ≡ true → Hands c.args.reader.now c.next.new.self (g.S.Shelf.told c.args.shelf.now).rest (g.S.Shelf.told c.next.new.shelf).rest c.next.new.frame)) ok c.next.ensures.hands in
           let hands = h refl in record { all = hands.is.all; range = hands.is.range };
       answers = c.next.ensures.behind;
     }

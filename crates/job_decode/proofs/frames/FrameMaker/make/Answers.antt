@@ -1,5 +1,5 @@
 use Rattle.std.proofs.Common.{sym, ◌∙◌}
-use Rattle.mv_terms.specs.CodedPicture.{macroblocks}
+use Rattle.mv_terms.specs.CodedPicture.{frame_macroblocks}
 use Rattle.mv_terms.specs.UnitLists.{lent_unit}
 use Rattle.mv_heads.specs.HeadsInTurn.{context_bytes}
 use Rattle.cert_picture.specs.FrameFileOf.{frames_of}
@@ -23,7 +23,7 @@ returns-clause-made c u before stands lent lists =
     let stream : StreamParts = record { unit = c.args.unit.now; context = c.bytes.result; forward = c.forward.result; backward = c.backward.result } in
     let earlier = lists_in (frames_of before) in
     let kept = noted u.lists (lent_unit c.args.unit.now) earlier c.note.new.self lists (c.note.ensures (context_bytes earlier) stands.sequence) in
-    made (macroblocks c.args.coded.now.head.now) c.args.self.now
+    made (frame_macroblocks c.args.coded.now.head.now) c.args.self.now
     (record { sequence = c.note.new.self; links = c.push.new.self; room = c.make_frame-seal.new.room })
     c.args.coded.now stream u before c.make_frame-seal.new.to.items c.make_frame-seal.result stands lent lists
     (c.bytes.ensures ∙ kept) c.forward.ensures c.backward.ensures c.make_frame-seal.ensures.frame c.make_frame-seal.ensures.seal

@@ -17,12 +17,12 @@ returns-clause-read g c =
     let e = c.read_all.ensures in
     let given = c.give-given.ensures in
     let all : length c.args.self.now ≤ c.give-given.result = omega (arith, given.count, c.if-given-to.false) in
-    all_and_more c.args.self.now c.give-given.new.self c.read_all.new.to c.give-given.new.to (g.S.Shelf.rest c.args.shelf.now) (g.S.Shelf.rest c.read_all.new.shelf) c.give-given.result c.read_all.result
+    all_and_more c.args.self.now c.give-given.new.self c.read_all.new.to c.give-given.new.to (g.S.Shelf.told c.args.shelf.now).rest (g.S.Shelf.told c.read_all.new.shelf).rest c.give-given.result c.read_all.result
     all given.left given.given e.front e.within e.read
 
 pub returns-clause-part : goal.returns-clause-part
 returns-clause-part g c =
     let given = c.give-given.ensures in
-    fewer_filled c.args.self.now (length c.args.to.now) c.give-given.result (g.S.Shelf.rest c.args.shelf.now) (g.S.Shelf.rest c.read_all.new.shelf) c.read_all.result
+    fewer_filled c.args.self.now (length c.args.to.now) c.give-given.result (g.S.Shelf.told c.args.shelf.now).rest (g.S.Shelf.told c.read_all.new.shelf).rest c.read_all.result
     (omega (arith, given.count, c.if-given-to.false, c.give-given.auto.to)) (omega (arith, given.count))
-    (subst (λ n. OnErr c.read_all.result (TakesFewer (n - c.give-given.result) (g.S.Shelf.rest c.args.shelf.now) (g.S.Shelf.rest c.read_all.new.shelf))) c.give-given.auto.to c.read_all.ensures.part)
+    (subst (λ n. OnErr c.read_all.result (TakesFewer (n - c.give-given.result) (g.S.Shelf.told c.args.shelf.now).rest (g.S.Shelf.told c.read_all.new.shelf).rest)) c.give-given.auto.to c.read_all.ensures.part)

@@ -15,9 +15,9 @@ returns-clause-same g c =
     c.in_ok-count.ensures.front ∙ ap (take c.to_front-held.result) (c.deref_mut-2.ensures.value ∙ moved_is) ∙ c.to_front-held.ensures.moved
     ∙ ap (λ (xs : List ℕ). slice_range xs s.at s.end) c.deref_mut.ensures.value ∙ c.self.view_is in
     let now_is = grown st c.args.self.now c.to_front-held.result c.in_ok-count.count front in
-    subst (λ (a : List ℕ). Consumes (prepend_known c.args.self.now (g.S.Shelf.rest c.args.shelf.now)) (prepend_known a (g.S.Shelf.rest c.read_behind.new.shelf)) [])
+    subst (λ (a : List ℕ). Consumes (prepend_known c.args.self.now (g.S.Shelf.told c.args.shelf.now).rest) (prepend_known a (g.S.Shelf.told c.read_behind.new.shelf).rest) [])
     (sym (ap (λ (xs : List ℕ). slice_range xs 0 (c.to_front-held.result + c.in_ok-count.count)) items_is ∙ now_is))
-    (moved_over c.args.self.now (take c.in_ok-count.count (drop c.to_front-held.result st)) (g.S.Shelf.rest c.args.shelf.now) (g.S.Shelf.rest c.read_behind.new.shelf) c.in_ok-count.ensures.read)
+    (moved_over c.args.self.now (take c.in_ok-count.count (drop c.to_front-held.result st)) (g.S.Shelf.told c.args.shelf.now).rest (g.S.Shelf.told c.read_behind.new.shelf).rest c.in_ok-count.ensures.read)
 
 pub returns-clause-none : goal.returns-clause-none
 returns-clause-none g c = λ zero_is.

@@ -1,6 +1,0 @@
-use Rattle.std.proofs.Common.{◌≤◌, unsigned_abs}
-use Rattle.mv_terms.proofs.FilledLemmas.{AreFilled}
-use Rattle.mv_transform.proofs.tests.differences.Given as goal
-
-abbrev pub invariant-loop-k : goal.invariant-loop-k
-invariant-loop-k l = AreFilled 64 (λ k z. unsigned_abs z ≤ 255) l.block l.k

@@ -1,6 +1,0 @@
-use Rattle.std.proofs.Common.{◌≡◌, ℕ, List, length}
-use Rattle.plan_numbers.specs.Stands.{StandsFor}
-use Rattle.plan_numbers.proofs.tests.number_frames.Given as goal
-
-abbrev pub invariant-frames : goal.invariant-frames
-invariant-frames g l = (contexts : List (List ℕ)) × (numbers : List (List ℕ)) × StandsFor l.numbers contexts numbers × (length contexts ≡ l.i-counter)

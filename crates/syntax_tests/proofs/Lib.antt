@@ -1,0 +1,3 @@
+mod LargestLemmas
+mod WritableBlocks
+mod WritableMacroblocks
