@@ -1,5 +1,5 @@
 //! `cut_list`: lists at their limits, and cuts over endpoints in memory.
-use crate::fixtures::{HEADER, frame_file, inputs};
+use crate::fixtures::{HEADER, frame_file, input};
 use cut_list::{Entry, ListFault, cut_job, read_list};
 use mv_ends::{CleanShelf, MemShelf, MemSink};
 use mv_terms::{FrameFault, LineFault, Status};
@@ -17,14 +17,13 @@ const WIDER: &[u8] = b"YUV4MPEG2 C420p10 H16 W32\n";
 fn inputs_of_cut(alloc: Global, list: &[u8]) -> Result<Vec<(String, Vec<u8>)>, AllocError> {
     let four = frame_file(alloc, HEADER, &[0, 1, 2, 4])?;
     let two = frame_file(alloc, OTHER, &[2, 3])?;
-    let files = [
-        ("l", list),
-        ("a", four.as_slice()),
-        ("b", two.as_slice()),
-        ("c", WIDER),
-        ("e", HEADER),
-    ];
-    inputs(alloc, &files)
+    let mut files = Vec::new(alloc);
+    files.push(input(alloc, "l", list)?)?;
+    files.push(input(alloc, "a", &four)?)?;
+    files.push(input(alloc, "b", &two)?)?;
+    files.push(input(alloc, "c", WIDER)?)?;
+    files.push(input(alloc, "e", HEADER)?)?;
+    Ok(files)
 }
 
 /// The cut of this list, where reads and writes move at most so many bytes.

@@ -21,6 +21,15 @@ pub fn frame_file(alloc: Global, header: &[u8], frames: &[u8]) -> Result<Vec<u8>
     Ok(file)
 }
 
+/// An input of this name and these bytes.
+pub fn input(
+    alloc: Global,
+    name: &str,
+    bytes: &[u8],
+) -> Result<(String, Vec<u8>), AllocError> {
+    Ok((String::from_str(alloc, name)?, bytes.to_vec(alloc)?))
+}
+
 /// Inputs of these names and bytes, in this order.
 pub fn inputs(
     alloc: Global,
@@ -28,7 +37,7 @@ pub fn inputs(
 ) -> Result<Vec<(String, Vec<u8>)>, AllocError> {
     let mut inputs = Vec::new(alloc);
     for (name, bytes) in files {
-        inputs.push((String::from_str(alloc, name)?, bytes.to_vec(alloc)?))?;
+        inputs.push(input(alloc, name, bytes)?)?;
     }
     Ok(inputs)
 }
