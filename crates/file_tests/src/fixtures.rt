@@ -22,11 +22,7 @@ pub fn frame_file(alloc: Global, header: &[u8], frames: &[u8]) -> Result<Vec<u8>
 }
 
 /// An input of this name and these bytes.
-pub fn input(
-    alloc: Global,
-    name: &str,
-    bytes: &[u8],
-) -> Result<(String, Vec<u8>), AllocError> {
+pub fn input(alloc: Global, name: &str, bytes: &[u8]) -> Result<(String, Vec<u8>), AllocError> {
     Ok((String::from_str(alloc, name)?, bytes.to_vec(alloc)?))
 }
 

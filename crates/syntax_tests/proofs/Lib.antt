@@ -1,3 +1,4 @@
 mod LargestLemmas
+mod MatrixLemmas
 mod WritableBlocks
 mod WritableMacroblocks

@@ -1,4 +1,6 @@
 //! `mv_quant`: blocks whose values were computed from the standard's formulas with exact integers, outside.
+ghost use Rattle.std.specs.Prelude.{◌≤◌};
+
 use crate::comparison::same;
 use mv_quant::{Kind, dequantise, nearest, scale_value};
 
@@ -135,7 +137,8 @@ fn block_of(first: [i16; 8], last: i16) -> [i16; 64] {
 fn nearest_levels_of_an_intra_block(rt: HostRuntime) {
     let coefficients = block_of([1023, 9, 8, -9, -8, 24, 2047, -2048], 9);
     let levels = block_of([128, 1, 0, -1, 0, 1, 128, -128], 1);
-    same(&rt, &nearest(&coefficients, &FLAT), &levels);
+    let found = nearest(&coefficients, &FLAT);
+    same(&rt, &found, &levels);
 }
 
 #[test]
@@ -147,7 +150,8 @@ fn nearest_levels_of_a_non_intra_block(rt: HostRuntime) {
         scale: 2,
         ..FLAT
     };
-    same(&rt, &nearest(&coefficients, &kind), &levels);
+    let found = nearest(&coefficients, &kind);
+    same(&rt, &found, &levels);
 }
 
 // Many levels have one value here.
@@ -160,7 +164,20 @@ fn nearest_levels_of_the_finest_scale(rt: HostRuntime) {
         matrix: [1; 64],
         ..FLAT
     };
-    same(&rt, &nearest(&coefficients, &kind), &levels);
+    let found = nearest(&coefficients, &kind);
+    same(&rt, &found, &levels);
+}
+
+/// The first of the levels nearest to a first coefficient, all others of which are 0.
+fn nearest_first_level(coefficient: i16, dc_precision: u8) -> i16
+    requires { dc_precision ≤ 3 }
+{
+    let coefficients = block_of([coefficient, 0, 0, 0, 0, 0, 0, 0], 0);
+    let kind = Kind {
+        dc_precision,
+        ..FLAT
+    };
+    nearest(&coefficients, &kind)[0]
 }
 
 #[test]
@@ -168,14 +185,9 @@ fn nearest_first_levels_at_each_precision(rt: HostRuntime) {
     let in_range = [128, 256, 511, 1023];
     let greatest = [255, 511, 1023, 2047];
     for dc_precision in 0..4u8 {
-        let kind = Kind {
-            dc_precision,
-            ..FLAT
-        };
         let at = usize::from(dc_precision);
         for (coefficient, level) in [(1023, in_range[at]), (32767, greatest[at]), (-5, 0)] {
-            let coefficients = block_of([coefficient, 0, 0, 0, 0, 0, 0, 0], 0);
-            same(&rt, &nearest(&coefficients, &kind)[0], &level);
+            same(&rt, &nearest_first_level(coefficient, dc_precision), &level);
         }
     }
 }

@@ -1,0 +1,6 @@
+use Rattle.std.proofs.Common.{arith}
+use Rattle.syntax_tests.proofs.MatrixLemmas.{all_alike}
+use Rattle.syntax_tests.proofs.quant.nearest_levels_of_the_finest_scale.Goals as goal
+
+pub nearest-found-requires-clause-matrix : goal.nearest-found-requires-clause-matrix
+nearest-found-requires-clause-matrix g c = all_alike 1 (omega arith)
