@@ -6,6 +6,8 @@ mod cut;
 mod decode;
 mod recode;
 
+ghost use Rattle.std.specs.Prelude.{◌<◌};
+
 use mv_ends::{MemSink, Shelf};
 use mv_terms::Status;
 use recoder_cli::run;
@@ -122,7 +124,9 @@ fn left_by<S: Shelf>(
 }
 
 // A sink of which this call fails, and which takes so many bytes a call.
-fn failing_at(alloc: Global, room: usize, call: u64, most: usize) -> Result<MemSink, AllocError> {
+fn failing_at(alloc: Global, room: usize, call: u64, most: usize) -> Result<MemSink, AllocError>
+    requires { 0 < most }
+{
     MemSink::failing(alloc, room, vec![in alloc; call; 1]?, most)
 }
 

@@ -1,4 +1,6 @@
 //! Decoding over endpoints that fail or move few bytes at a time.
+ghost use Rattle.std.specs.Prelude.{◌<◌};
+
 use super::{
     failing_at, grey_frames, grey_stream, has_12_000_000_left, input, left_by, same_bytes,
     same_count, same_front, same_status, without_records, words,
@@ -22,7 +24,9 @@ fn pieces_of_any_length_give_the_same_frames(rt: HostRuntime) -> Result<(), Fail
 }
 
 // Two pictures that are read in pieces of at most so many bytes give this frame file, but for its records.
-fn decodes_in_pieces(rt: &impl Abort, alloc: Global, most: usize, file: &[u8]) -> Result<(), Fail> {
+fn decodes_in_pieces(rt: &impl Abort, alloc: Global, most: usize, file: &[u8]) -> Result<(), Fail>
+    requires { 0 < most }
+{
     let inputs = input(alloc, grey_stream(alloc, 2)?)?;
     let mut shelf = MemShelf::new(alloc, inputs, Vec::new(alloc), most)?;
     let (out, say) = (
